@@ -1,0 +1,5 @@
+pub mod Causes
+pub mod Writes
+pub mod Feed
+pub mod Tray
+pub mod Counted
