@@ -1,7 +1,8 @@
-ghost use Rattle.std.specs.Prelude.{◌≡◌, ℕ, ◌+◌, ◌-◌, ◌^◌, ◌<◌, ◌≤◌, ◌↔◌, min, List, length, drop, Some, IsErr, IfOk, Contains};
+ghost use Rattle.std.specs.Prelude.{◌≡◌, ℕ, ◌+◌, ◌-◌, ◌^◌, ◌<◌, ◌≤◌, ◌↔◌, min, List, length, take, drop, Some, IsErr, IfOk, Contains};
 ghost use Rattle.std.specs.Io.{ReadsAtMost};
 ghost use Rattle.std.specs.Io.KnownBytes.{ReadConsumes};
 ghost use Rattle.nx_io.specs.Causes.{HasCause};
+ghost use Rattle.nx_io.specs.Reads.{TellsEnd};
 ghost use Rattle.nx_io.specs.Feed.{Feed, feed};
 
 use crate::failure::Failed;
@@ -17,12 +18,13 @@ pub struct MemSource {
     failing: Vec<u64>,
     calls: u64,
     faults: u64,
+    ended: bool,
 }
 
 impl Model for MemSource {
     ghost Value = { Feed };
 
-    ghost view = { λ s. record { rest = drop s.at s.bytes.items; piece = s.piece; failing = s.failing.items; calls = s.calls; faults = s.faults } };
+    ghost view = { λ s. record { rest = drop s.at s.bytes.items; piece = s.piece; failing = s.failing.items; calls = s.calls; faults = s.faults; ended = s.ended } };
 
     ghost invariant = { λ s. (0 < s.piece) × (s.at ≤ length s.bytes.items) };
 }
@@ -40,6 +42,7 @@ impl MemSource {
             failing,
             calls: 0,
             faults: 0,
+            ended: false,
         }
     }
 }
@@ -49,9 +52,12 @@ impl Source for MemSource {
 
     ghost faults = { λ s. s.faults };
 
+    ghost ended = { λ s. s.ended };
+
     fn read(&mut self, buf: &mut [u8]) -> Result<usize, Failed>
         ensures bound { ReadsAtMost result buf.new }
         ensures bytes { ReadConsumes (Some self.old.rest) (Some self.new.rest) result buf.new }
+        ensures end { TellsEnd self.old.ended self.new.ended result buf.new }
         ensures cause { HasCause self.old.faults self.new.faults result }
 
         // Exactly the listed calls fail.
@@ -67,9 +73,21 @@ impl Source for MemSource {
             self.faults = self.faults.saturating_add(1);
             return Err(Failed);
         }
-        let count = self.piece.min(buf.len()).min(self.bytes.len() - self.at);
-        buf[..count].copy_from_slice(&self.bytes[self.at..self.at + count]);
+        let count = copy_front(&self.bytes[self.at..], self.piece, buf);
         self.at += count;
+        if !buf.is_empty() {
+            self.ended = count == 0;
+        }
         Ok(count)
     }
+}
+
+/// Copies the first bytes of `from`, at most `most` and as many as fit, to the front of `to`.
+fn copy_front(from: &[u8], most: usize, to: &mut [u8]) -> usize
+    ensures count { result ≡ min (min most (length to.old)) (length from.now) }
+    ensures front { take result to.new ≡ take result from.now }
+{
+    let count = most.min(to.len()).min(from.len());
+    to[..count].copy_from_slice(&from[..count]);
+    count
 }

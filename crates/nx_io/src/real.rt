@@ -1,5 +1,5 @@
-ghost use Rattle.std.specs.Prelude.{◌≡◌, ℕ};
-ghost use Rattle.nx_io.specs.Counted.{Counted};
+ghost use Rattle.std.specs.Prelude.{◌≡◌, ℕ, false};
+ghost use Rattle.nx_io.specs.Real.{Reading, Writing};
 
 use crate::failure::Failed;
 use crate::sink::Sink;
@@ -12,30 +12,42 @@ use std::marker::Model;
 pub struct RealSource<R> {
     reader: R,
     faults: u64,
+    ended: bool,
 }
 
 impl<R> Model for RealSource<R> {
-    ghost Value = { Counted R };
+    ghost Value = { Reading R };
 
-    ghost view = { λ s. record { device = s.reader; faults = s.faults } };
+    ghost view = { λ s. record { reader = s.reader; faults = s.faults; ended = s.ended } };
 }
 
 impl<R: Read> RealSource<R> {
     pub fn new(reader: R) -> Self
-        ensures { result ≡ record { device = reader; faults = 0 } }
+        ensures { result ≡ record { reader = reader; faults = 0; ended = false } }
     {
-        RealSource { reader, faults: 0 }
+        RealSource {
+            reader,
+            faults: 0,
+            ended: false,
+        }
     }
 }
 
 impl<R: Read> Source for RealSource<R> {
-    ghost left = { λ s. R.remaining s.device };
+    ghost left = { λ s. R.remaining s.reader };
 
     ghost faults = { λ s. s.faults };
 
+    ghost ended = { λ s. s.ended };
+
     fn read(&mut self, buf: &mut [u8]) -> Result<usize, Failed> {
         match self.reader.read(buf) {
-            Ok(count) => Ok(count),
+            Ok(count) => {
+                if !buf.is_empty() {
+                    self.ended = count == 0;
+                }
+                Ok(count)
+            }
             Err(_) => {
                 self.faults = self.faults.saturating_add(1);
                 Err(Failed)
@@ -53,21 +65,21 @@ pub struct RealSink<W> {
 }
 
 impl<W> Model for RealSink<W> {
-    ghost Value = { Counted W };
+    ghost Value = { Writing W };
 
-    ghost view = { λ s. record { device = s.writer; faults = s.faults } };
+    ghost view = { λ s. record { writer = s.writer; faults = s.faults } };
 }
 
 impl<W: Write> RealSink<W> {
     pub fn new(writer: W) -> Self
-        ensures { result ≡ record { device = writer; faults = 0 } }
+        ensures { result ≡ record { writer = writer; faults = 0 } }
     {
         RealSink { writer, faults: 0 }
     }
 }
 
 impl<W: Write> Sink for RealSink<W> {
-    ghost taken = { λ s. W.contents s.device };
+    ghost taken = { λ s. W.contents s.writer };
 
     ghost faults = { λ s. s.faults };
 

@@ -1,6 +1,0 @@
--- A device of std, and how often it failed.
-use Rattle.std.specs.Prelude.{ℕ}
-
-pub record Counted (Device : Type 0) : Type 0 where
-  pub device : Device
-  pub faults : ℕ
