@@ -20,10 +20,10 @@ refusal_behind front (BadByte at) = BadByte (front + at)
 refusal_behind front (BadSegment at) = BadSegment (front + at)
 refusal_behind front NoMemory = NoMemory
 
--- the place that a refusal names is within a text of that length
-abbrev pub IsPlaceWithin : ℕ → NameErr → Type 0
-IsPlaceWithin length (BadByte at) = at ≤ length
-IsPlaceWithin length (BadSegment at) = at ≤ length
-IsPlaceWithin length Empty = Unit {0}
-IsPlaceWithin length (TooLong n) = Unit {0}
-IsPlaceWithin length NoMemory = Unit {0}
+-- the refusal speaks of a text of that length: a place that it names is within the text
+abbrev pub SpeaksOf : ℕ → NameErr → Type 0
+SpeaksOf length Empty = Unit {0}
+SpeaksOf length (TooLong n) = Unit {0}
+SpeaksOf length (BadByte at) = at ≤ length
+SpeaksOf length (BadSegment at) = at ≤ length
+SpeaksOf length NoMemory = ⊥

@@ -3,8 +3,7 @@ use Rattle.std.specs.Prelude.{ℕ, Bool, ◌&&◌, ◌||◌, nat_le, ◌==◌, i
 use Rattle.std.specs.List.{prefix_len}
 use Rattle.nx_base.specs.declared.name_err.NameErr.{NameErr}
 use Rattle.nx_base.specs.declared.name_err.NameErr.TheVariants.{BadByte}
-use Rattle.nx_base.specs.Order.{same_name}
-use Rattle.nx_base.specs.Texts.{text_of}
+use Rattle.nx_base.specs.Texts.{text_of, same_name}
 
 -- a letter, a digit, `.`, `_` or `-`
 abbrev pub is_name_byte : ℕ → Bool

@@ -1,18 +1,9 @@
--- The orders of names, of keys and of blobs.
-use Rattle.std.specs.Prelude.{ℕ, Bool, List}
+-- The orders of keys and of blobs. Both go by the byte order of texts.
 use Rattle.std.specs.declared.cmp.Ordering.{Ordering}
-use Rattle.std.specs.Ordering.{nat_cmp, ordering_then, is_eq}
-use Rattle.std.specs.Cmp.Lexicographic.{slice_cmp}
+use Rattle.std.specs.Ordering.{nat_cmp, ordering_then}
+pub use Rattle.nx_base.specs.Texts.{name_cmp, same_name}
 use Rattle.nx_base.specs.declared.key.Key.{Key}
 use Rattle.nx_base.specs.declared.blob_ref.BlobRef.{BlobRef}
-
--- names in byte order
-abbrev pub name_cmp : List ℕ → List ℕ → Ordering
-name_cmp = slice_cmp nat_cmp
-
--- whether two names are the same
-abbrev pub same_name : List ℕ → List ℕ → Bool
-same_name a b = is_eq (name_cmp a b)
 
 -- keys by repository, and then by path
 abbrev pub key_cmp : Key → Key → Ordering

@@ -1,6 +1,6 @@
-ghost use Rattle.std.specs.Prelude.{◌≡◌, ◌+◌, ◌<◌, ◌≤◌, ◌^◌, IfOk, IsTrue};
-ghost use Rattle.nx_base.specs.NameErr.{Gives, refusal_behind, IsPlaceWithin};
-ghost use Rattle.nx_base.specs.Paths.{path_of, is_path};
+ghost use Rattle.std.specs.Prelude.{◌≡◌, ◌+◌, ◌<◌, ◌≤◌, ◌^◌, length, IfOk, IsTrue};
+ghost use Rattle.nx_base.specs.NameErr.{Gives, refusal_behind, SpeaksOf};
+ghost use Rattle.nx_base.specs.Paths.{path_of, is_path, after_slash};
 
 use crate::name_err::{NameErr, NoMemory};
 use crate::path_rule::read_slashed;
@@ -29,9 +29,20 @@ impl Model for AssetPath {
     ghost invariant = { λ p. IsTrue (is_path (string_bytes p.text)) };
 }
 
+// The text without one leading slash.
+fn after_slash(text: &[u8]) -> &[u8]
+    ensures rest { result.now ≡ after_slash text.now }
+    ensures within { length result.now ≤ length text.now }
+{
+    match text {
+        [b'/', rest @ ..] => rest,
+        _ => text,
+    }
+}
+
 // The refusal of what stands behind `front` bytes of a text, with its place in the text.
 fn behind(front: usize, length: usize, refusal: NameErr) -> NameErr
-    requires within { IsPlaceWithin length refusal }
+    requires within { SpeaksOf length refusal }
     requires fits { front + length < 2 ^ 64 }
     ensures { result ≡ refusal_behind front refusal }
 {
@@ -49,16 +60,13 @@ impl AssetPath {
     pub fn parse(alloc: Global, text: &[u8]) -> Result<AssetPath, NameErr>
         ensures { Gives (path_of text.now) result }
     {
-        let (front, path) = match text {
-            [b'/', path @ ..] => (1, path),
-            _ => (0, text),
-        };
+        let path = after_slash(text);
         match read_slashed(path, PATH_LENGTH) {
             Ok(path) => match owned(alloc, path) {
                 Ok(text) => Ok(AssetPath { text }),
                 Err(NoMemory) => Err(NameErr::NoMemory),
             },
-            Err(refusal) => Err(behind(front, path.len(), refusal)),
+            Err(refusal) => Err(behind(text.len() - path.len(), path.len(), refusal)),
         }
     }
 

@@ -58,7 +58,8 @@ fn good_len(text: &[u8]) -> usize
 
 // Reads the text as a media type.
 fn read_type(text: &[u8]) -> Result<&str, NameErr>
-    ensures { MatchResult result (λ t. content_type_of text.now ≡ Ok t.now) (λ e. content_type_of text.now ≡ Err e) }
+    ensures read { MatchResult result (λ t. content_type_of text.now ≡ Ok t.now) (λ e. content_type_of text.now ≡ Err e) }
+    ensures same { IfOk result (λ t. t.now ≡ text.now) }
 {
     if text.is_empty() {
         return Err(NameErr::Empty);

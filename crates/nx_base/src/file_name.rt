@@ -34,10 +34,12 @@ impl Name {
     pub fn parse(alloc: Global, text: &str) -> Result<Name, NameErr>
         ensures { Gives (file_name_of text.now) result }
     {
-        let name = read_slashed(text.as_bytes(), FILE_NAME_LENGTH)?;
-        match owned(alloc, name) {
-            Ok(text) => Ok(Name { text }),
-            Err(NoMemory) => Err(NameErr::NoMemory),
+        match read_slashed(text.as_bytes(), FILE_NAME_LENGTH) {
+            Ok(name) => match owned(alloc, name) {
+                Ok(text) => Ok(Name { text }),
+                Err(NoMemory) => Err(NameErr::NoMemory),
+            },
+            Err(refusal) => Err(refusal),
         }
     }
 

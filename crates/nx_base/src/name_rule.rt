@@ -1,5 +1,5 @@
 //! The rule of the names of repositories, stores and policies.
-ghost use Rattle.std.specs.Prelude.{◌≡◌, Ok, Err, MatchResult};
+ghost use Rattle.std.specs.Prelude.{◌≡◌, Ok, Err, MatchResult, IfOk};
 ghost use Rattle.std.specs.List.{prefix_len};
 ghost use Rattle.nx_base.specs.Names.{is_name_byte, name_of};
 
@@ -30,7 +30,8 @@ fn name_len(text: &[u8]) -> usize
 
 /// Reads the text as a name.
 pub fn read_name(text: &[u8]) -> Result<&str, NameErr>
-    ensures { MatchResult result (λ name. name_of text.now ≡ Ok name.now) (λ e. name_of text.now ≡ Err e) }
+    ensures read { MatchResult result (λ name. name_of text.now ≡ Ok name.now) (λ e. name_of text.now ≡ Err e) }
+    ensures same { IfOk result (λ name. name.now ≡ text.now) }
 {
     if text.is_empty() {
         return Err(NameErr::Empty);

@@ -1,7 +1,7 @@
 //! The rule of texts of segments between slashes.
-ghost use Rattle.std.specs.Prelude.{◌≡◌, ◌≢◌, ℕ, ◌<◌, ◌≤◌, length, slice_index, Ok, Err, MatchResult, IfErr, IfSome};
+ghost use Rattle.std.specs.Prelude.{◌≡◌, ◌≢◌, ℕ, ◌<◌, ◌≤◌, length, slice_index, Ok, Err, MatchResult, IfOk, IfErr, IfSome};
 ghost use Rattle.std.specs.List.{prefix_len};
-ghost use Rattle.nx_base.specs.NameErr.{IsPlaceWithin};
+ghost use Rattle.nx_base.specs.NameErr.{SpeaksOf};
 ghost use Rattle.nx_base.specs.Paths.{is_path_byte, good_len, segments_of, is_bad_segment, bad_place, slashed_of};
 
 use crate::name_err::NameErr;
@@ -87,7 +87,8 @@ fn first_bad(text: &[u8]) -> Option<usize>
 #[tactic(auto, unfolding(crate::specs::Paths::slashed_of))]
 pub fn read_slashed(text: &[u8], most: usize) -> Result<&str, NameErr>
     ensures read { MatchResult result (λ path. slashed_of most text.now ≡ Ok path.now) (λ e. slashed_of most text.now ≡ Err e) }
-    ensures within { IfErr result (IsPlaceWithin (length text.now)) }
+    ensures same { IfOk result (λ path. path.now ≡ text.now) }
+    ensures within { IfErr result (SpeaksOf (length text.now)) }
 {
     if text.is_empty() {
         return Err(NameErr::Empty);

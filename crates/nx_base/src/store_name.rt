@@ -4,7 +4,7 @@ ghost use Rattle.nx_base.specs.Names.{store_name_of, is_store_name, is_reserved}
 
 use crate::name_err::{NameErr, NoMemory};
 use crate::name_rule::read_name;
-use crate::text::owned;
+use crate::text::{owned, same_text};
 use std::alloc::Global;
 use std::marker::Model;
 
@@ -32,12 +32,12 @@ impl Model for StoreName {
 fn is_reserved(text: &[u8]) -> bool
     ensures { result ≡ is_reserved text.now }
 {
-    text == b".".as_slice()
-        || text == b"..".as_slice()
-        || text == b"tmp".as_slice()
-        || text == b"state".as_slice()
-        || text == b"config.properties".as_slice()
-        || text == b"assets.db".as_slice()
+    same_text(text, b".")
+        || same_text(text, b"..")
+        || same_text(text, b"tmp")
+        || same_text(text, b"state")
+        || same_text(text, b"config.properties")
+        || same_text(text, b"assets.db")
 }
 
 impl StoreName {

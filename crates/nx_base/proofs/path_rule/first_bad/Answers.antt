@@ -5,8 +5,8 @@ use Rattle.nx_base.proofs.path_rule.first_bad.Goals as goal
 use Rattle.std.proofs.lemmas.Bool.{cases_lt}
 use Rattle.std.proofs.Common.{inl, inr, length, ◌<◌, ◌≤◌}
 
-pub returns-then-is_bad : goal.returns-then-is_bad
-returns-then-is_bad c =
+pub returns-then-is_bad-clause-place : goal.returns-then-is_bad-clause-place
+returns-then-is_bad-clause-place c =
     let text = c.args.text.now in
     let end = c.segment_end-end.result in
     let e = c.segment_end-end.ensures in
@@ -19,8 +19,8 @@ returns-then-is_bad c =
           ∙ sym (place_last text c.walk.start end e.from (omega arith) e.inside) ∙ c.walk.invariant.same
     ]
 
-pub returns-then-end-text : goal.returns-then-end-text
-returns-then-end-text c =
+pub returns-then-end-text-clause-place : goal.returns-then-end-text-clause-place
+returns-then-end-text-clause-place c =
     ap (λ (b : Bool). cond b (Some c.walk.start) None) c.if-is_bad.ensures
     ∙ sym (place_last c.args.text.now c.walk.start c.segment_end-end.result c.segment_end-end.ensures.from (omega arith) c.segment_end-end.ensures.inside) ∙ c.walk.invariant.same
 

@@ -5,7 +5,7 @@ use Rattle.nx_base.proofs.path_rule.first_bad.Given as goal
 abbrev pub invariant-walk : goal.invariant-walk
 invariant-walk l = record {
   within : l.start ≤ length l.text;
-  same : bad_place l.start (segments_of (drop l.start l.text)) ≡ bad_place l.from (segments_of (drop l.from l.text));
+  same : bad_place l.start (segments_of (drop l.start l.text)) ≡ bad_place 0 (segments_of l.text);
 }
 
 abbrev pub decreases-walk : goal.decreases-walk

@@ -1,6 +1,6 @@
 use Rattle.std.proofs.Common.{rules, ◌≡◌, ◌∙◌, sym, ap, refl, length, None, Some, true, false, true≢false, is_some, is_ok, arith, if◌then◌else◌, ◌==◌, unwrap_or, List, ℕ, Option}
 use Rattle.std.proofs.lemmas.Bool.Decides.{nat_tests}
-use Rattle.nx_base.specs.Ids.{id_refusal}
+use Rattle.nx_base.specs.Ids.{id_refusal, id_text}
 use Rattle.nx_base.proofs.IdPlaces.{bad_here, bad_later, bad_end, no_bad, parses, bytes, bad_short, bad_whole, same_bytes, refusal_is, refusal_none}
 use Rattle.nx_base.proofs.blob_id.BlobId.parse.Goals as goal
 
@@ -13,7 +13,7 @@ returns-then-not-is_id_byte-clause-refused c =
     refusal_is c.args.text.now c.loop-at.at (omega arith) (omega arith)
     (c.loop-at.invariant ∙ bad_here c.args.text.now c.loop-at.at c.loop-at-test.true (search rules))
 
-pub returns-then-not-is_id_byte-clause-accepted : goal.returns-then-not-is_id_byte-clause-found
+pub returns-then-not-is_id_byte-clause-accepted : goal.returns-then-not-is_id_byte-clause-accepted
 returns-then-not-is_id_byte-clause-accepted c =
     let why = refusal_is c.args.text.now c.loop-at.at (omega arith) (omega arith)
     (c.loop-at.invariant ∙ bad_here c.args.text.now c.loop-at.at c.loop-at-test.true (search rules)) in
@@ -37,12 +37,12 @@ unreachable-requires c =
     let good = bad_whole c.args.text.now c.loop-at.at c.loop-at-test.false c.loop-at.auto.at-end (omega arith) c.if-text-lt-ID_LENGTH.false c.loop-at.invariant in
     true≢false (sym (c.in-Err.ensures.ok.1 (bytes c.args.text.now good, sym (parses c.args.text.now good))))
 
-pub returns-clause-read : goal.returns-clause-value
+pub returns-clause-read : goal.returns-clause-read
 returns-clause-read c =
     let good = bad_whole c.args.text.now c.loop-at.at c.loop-at-test.false c.loop-at.auto.at-end (omega arith) c.if-text-lt-ID_LENGTH.false c.loop-at.invariant in
-    same_bytes c.args.text.now c.in-Ok.uuid good c.in-Ok.ensures.bytes
+    ap id_text c.as_bytes.ensures ∙ same_bytes c.args.text.now c.in-Ok.uuid good c.in-Ok.ensures.bytes
 
-pub returns-clause-accepted : goal.returns-clause-found
+pub returns-clause-accepted : goal.returns-clause-accepted
 returns-clause-accepted c =
     let good = bad_whole c.args.text.now c.loop-at.at c.loop-at-test.false c.loop-at.auto.at-end (omega arith) c.if-text-lt-ID_LENGTH.false c.loop-at.invariant in
     (λ _. refusal_none c.args.text.now (omega arith) (omega arith) good, λ _. refl)
