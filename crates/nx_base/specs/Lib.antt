@@ -1,0 +1,11 @@
+pub mod NameErr
+pub mod Texts
+pub mod Names
+pub mod ContentTypes
+pub mod Paths
+pub mod Ids
+pub mod Order
+pub mod Codes
+pub mod Fills
+pub mod Cleanup
+pub mod Given
