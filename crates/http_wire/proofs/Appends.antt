@@ -29,7 +29,7 @@ past_lf [] = refl
 past_lf (b ∷ bytes) = refl
 
 last_one : (p : Bool) (x : ℕ) (b : List ℕ) → p ≡ eqb x 10 → drop_blank (x ∷ b) ≡ drop_blank (cond p [] (x ∷ []) ++ b)
-last_one true x b e = let same : x ≡ 10 = eqb-true x 10 (sym e) in rw same (past_lf b)
+last_one true x b e = subst (λ (y : ℕ). drop_blank (y ∷ b) ≡ drop_blank b) (sym (eqb-true x 10 (sym e))) (past_lf b)
 last_one false x b e = refl
 
 first_two : (p q : Bool) (x y : ℕ) (u v a b u' v' : List ℕ) → drop_blank (x ∷ y ∷ (a ++ b)) ≡ cond p u' (cond q v' (x ∷ y ∷ (a ++ b))) → u' ≡ drop_blank (u ++ b) → v' ≡ drop_blank (v ++ b)

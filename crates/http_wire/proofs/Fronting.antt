@@ -1,13 +1,14 @@
 -- What stands in front of a stream, whatever bytes come behind.
 use Rattle.std.proofs.Common.{◌≡◌, ◌≢◌, ℕ, ◌+◌, ◌-◌, ◌<◌, ◌≤◌, min, Bool, true, false, IsTrue, ◌↔◌, List, [], ◌∷◌, ◌++◌, length, take, drop, Result, Ok, Err, IfOk, refl, sym, ap, ◌∙◌, subst, arith, inl, inr, append_assoc, append-nil, length-append, length-drop}
-use Rattle.std.proofs.lemmas.List.{take-append-le, take_all, take-append-drop, length-take, length-take-le, drop-append-le}
+use Rattle.std.proofs.lemmas.List.{take-append-le, take_all, take-take, take-append-drop, length-take, length-take-le, drop-append-le}
+use Rattle.std.proofs.lemmas.Bool.{cases_lt}
 use Rattle.std.proofs.lemmas.List.Folds.{drop_split}
 use Rattle.http_wire.specs.declared.head.Head.{Head}
 use Rattle.http_wire.specs.declared.head_err.HeadErr.{HeadErr}
 use Rattle.http_wire.specs.declared.head_err.HeadErr.TheVariants.{BadHead, NotBuilt, NoMemory}
 use Rattle.http_wire.specs.declared.front.Front.{Front}
 use Rattle.http_wire.specs.declared.front.Front.TheVariants as fronts
-use Rattle.http_wire.specs.Cut.{drop_blank, IsHeadLen, HasNoHead, head_limit}
+use Rattle.http_wire.specs.Cut.{drop_blank, EndsHead, IsHeadLen, HasNoHead, head_limit}
 use Rattle.http_wire.specs.Head.{GivesHead}
 use Rattle.http_wire.specs.Requests.{Item, refused, whole, cut, FirstHead, HasTooLong, HasBadHead, HasOtherHead, EndsInHead, Accepts, body_len, asks_for_head, IsRefused, AreRequests}
 use Rattle.http_wire.specs.Fronts.{Opens, IsFront}
@@ -123,3 +124,22 @@ none bytes m at_end (fronts.Refused why bare) e q h (w, long, b) =
       refl,
     ))
 none bytes m at_end front e q h x = absurd x
+
+-- ---- what was scanned
+
+-- no line end stands in front
+pub no_blank : (bytes : List ℕ) (n : ℕ) → n ≤ 0 → drop n bytes ≡ drop_blank bytes → drop_blank bytes ≡ bytes
+no_blank bytes n le e = let zero : n ≡ 0 = omega (arith, le) in sym e ∙ ap (λ (k : ℕ). drop k bytes) zero
+
+front_of : (k j : ℕ) (bytes : List ℕ) → HasNoHead bytes → ¬ (EndsHead (take k (take j bytes)))
+front_of k j bytes h e =
+    elim (cases_lt j k) [
+      | inl lt ↦ h j (subst EndsHead (take_all k (take j bytes) (omega (arith, length-take j bytes, lt))) e)
+      | inr le ↦ h k (subst EndsHead (take-take k j bytes le) e)
+    ]
+
+-- where a front was scanned, a shorter one of the first bytes has no head
+pub scanned_on : (bytes : List ℕ) (scanned j m : ℕ) → j ≤ scanned → j ≤ length (take m bytes) → HasNoHead (take scanned bytes) → HasNoHead (take j (take m bytes))
+scanned_on bytes scanned j m le within h k e =
+    let same : take j (take m bytes) ≡ take j (take scanned bytes) = take-take j m bytes (omega (arith, within, length-take m bytes)) ∙ sym (take-take j scanned bytes le) in
+    front_of k j (take scanned bytes) h (subst (λ (l : List ℕ). EndsHead (take k l)) same e)

@@ -4,3 +4,4 @@ pub mod Head
 pub mod Requests
 pub mod Fronts
 pub mod FrontSteps
+pub mod Response

@@ -12,6 +12,9 @@ mod head_err;
 mod kind;
 mod media_type;
 mod method;
+mod reason;
+mod refusal;
+mod response;
 mod stream;
 mod target;
 
@@ -22,4 +25,5 @@ pub use front::{Front, content_front, read_front};
 pub use head::{Head, read_head};
 pub use head_err::HeadErr;
 pub use method::Method;
+pub use response::{refusal_response, response_head};
 pub use stream::one_reading;
