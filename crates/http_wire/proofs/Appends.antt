@@ -1,7 +1,7 @@
 -- What more bytes behind a stream leave as it was.
 use Rattle.std.proofs.Common.{◌≡◌, ℕ, ◌+◌, ◌<◌, ◌≤◌, Bool, true, false, cond, eqb, ◌&&◌, List, [], ◌∷◌, ◌++◌, length, take, drop, refl, sym, ap, ◌∙◌, subst, arith, inl, inr, append_assoc, length-append, length-take}
 use Rattle.std.proofs.lemmas.Bool.{eqb-true}
-use Rattle.std.proofs.lemmas.List.{take-append-le, length-take-le}
+use Rattle.std.proofs.lemmas.List.{take-append-le, take_all, length-take-le}
 use Rattle.http_wire.specs.Cut.{drop_blank, EndsHead, IsHeadLen, HasNoHead}
 
 -- ---- the line ends in front
@@ -62,3 +62,11 @@ ends_long text (front, inr e) = omega (arith, ap length e, length-append front (
 -- a head has at least two bytes
 pub two_bytes : (d : List ℕ) (n : ℕ) → IsHeadLen d n → 2 ≤ n
 two_bytes d n h = omega (arith, ends_long (take n d) h.ends, length-take-le n d h.within)
+
+no_end : ¬ (EndsHead [])
+no_end (front, inl e) = omega (arith, ap length e, length-append front (10 ∷ 10 ∷ []))
+no_end (front, inr e) = omega (arith, ap length e, length-append front (10 ∷ 13 ∷ 10 ∷ []))
+
+-- nothing was scanned yet
+pub HasNoHead-none : (bytes : List ℕ) → HasNoHead (take 0 bytes)
+HasNoHead-none bytes m e = no_end (subst EndsHead (take_all m [] (omega arith)) e)

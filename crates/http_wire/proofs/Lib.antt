@@ -5,3 +5,4 @@ pub mod Limits
 pub mod Appends
 pub mod Unique
 pub mod Fronting
+pub mod Refusals

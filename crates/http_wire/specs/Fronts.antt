@@ -1,10 +1,10 @@
 -- What stands in front of the bytes of a stream that came so far, however they go on.
-use Rattle.std.specs.Prelude.{◌≡◌, ℕ, ◌-◌, ◌≤◌, ◌<◌, Bool, true, false, List, [], ◌∷◌, ◌++◌, take, drop, length}
+use Rattle.std.specs.Prelude.{◌≡◌, ℕ, ◌+◌, ◌-◌, ◌≤◌, ◌<◌, Bool, true, false, List, [], ◌∷◌, ◌++◌, take, drop, length}
 use Rattle.http_wire.specs.declared.head.Head.{Head}
 use Rattle.http_wire.specs.declared.front.Front.{Front}
 use Rattle.http_wire.specs.declared.front.Front.TheVariants as fronts
 use Rattle.http_wire.specs.Cut.{drop_blank, HasNoHead, head_limit}
-use Rattle.http_wire.specs.Requests.{AreRequests, Accepts, Item, refused, whole, cut}
+use Rattle.http_wire.specs.Requests.{AreRequests, Accepts, body_len, Item, refused, whole, cut}
 
 -- the head in front is accepted, and what follows it begins at a place
 abbrev pub Opens : List ℕ → Head → ℕ → Type 0
@@ -16,7 +16,7 @@ IsFront bytes (fronts.Blank to) =
 IsFront bytes fronts.Need = HasNoHead bytes × (length bytes < head_limit)
 IsFront bytes (fronts.Stop inside) = AreRequests bytes [] inside
 IsFront bytes (fronts.Refused why bare) = (more : List ℕ) → AreRequests (bytes ++ more) (refused why bare ∷ []) false
-IsFront bytes (fronts.Open head from) = Opens bytes head from
+IsFront bytes (fronts.Open head from) = Opens bytes head from × (length bytes < from + body_len head.framing)
 IsFront bytes (fronts.Whole head from to) =
     (more : List ℕ) (items : List Item) (inside : Bool) → AreRequests (drop to bytes ++ more) items inside
     → AreRequests (bytes ++ more) (whole head (take (to - from) (drop from bytes)) ∷ items) inside

@@ -139,10 +139,11 @@ pub fn refusal_response(
     let size = words.len() as u64 + 1;
     let len = put_head(&mut out, status, Some(b"text/plain"), Some(size), closes);
     let mut bytes = copied(alloc, &out[..len])?;
-    if !bare {
-        append(&mut bytes, words.as_bytes())?;
-        append(&mut bytes, b"\n")?;
+    if bare {
+        return Ok(bytes);
     }
+    append(&mut bytes, words.as_bytes())?;
+    append(&mut bytes, b"\n")?;
     Ok(bytes)
 }
 
