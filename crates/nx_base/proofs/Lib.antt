@@ -3,4 +3,5 @@ pub mod IdOrder
 pub mod IdPlaces
 pub mod Orders
 pub mod PathLemmas
+pub mod ReadsItself
 pub mod Refusals
