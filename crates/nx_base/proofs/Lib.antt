@@ -1,4 +1,5 @@
 pub mod AsciiLemmas
+pub mod Criteria
 pub mod IdOrder
 pub mod IdPlaces
 pub mod Orders

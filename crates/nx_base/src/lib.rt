@@ -35,6 +35,7 @@ mod content_type;
 mod file_name;
 mod fill;
 mod key;
+mod laws;
 mod layout;
 mod marked;
 mod member;
@@ -48,6 +49,8 @@ mod repo_kind;
 mod repo_name;
 mod row;
 mod store_name;
+#[cfg(test)]
+mod tests;
 mod text;
 
 pub use asset::Asset;
@@ -58,6 +61,7 @@ pub use content_type::ContentType;
 pub use file_name::Name;
 pub use fill::Fill;
 pub use key::Key;
+pub use laws::{blobs_are_ordered, each_criterion_counts, keys_are_ordered};
 pub use layout::Layout;
 pub use marked::Marked;
 pub use member::Member;
