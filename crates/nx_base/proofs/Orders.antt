@@ -9,18 +9,11 @@ use Rattle.std.proofs.lemmas.Map.Lookups.{CmpEqualImpliesEq, exact_pairs, exact_
 use Rattle.nx_base.specs.declared.key.Key.{Key}
 use Rattle.nx_base.specs.declared.blob_ref.BlobRef.{BlobRef}
 use Rattle.nx_base.specs.Order.{name_cmp, key_cmp, age_cmp}
-
-pub key_cmp_total : IsTotalOrder key_cmp
-key_cmp_total = then_total (on_total (λ (k : Key). k.repo) nat_list_cmp_total) (on_total (λ (k : Key). k.path) nat_list_cmp_total)
+pub use Rattle.nx_base.specs.OrderLaws.{key_cmp_total, age_cmp_total}
 
 -- keys that compare alike are one
 pub exact_keys : CmpEqualImpliesEq key_cmp
 exact_keys a b h = ap (λ (p : List ℕ × List ℕ). record { repo = p.0; path = p.1 }) (exact_pairs name_cmp name_cmp exact_bytes exact_bytes (a.repo, a.path) (b.repo, b.path) h)
-
-pub age_cmp_total : IsTotalOrder age_cmp
-age_cmp_total =
-    then_total (on_total (λ (b : BlobRef). b.stamp) nat_cmp_total)
-    (then_total (on_total (λ (b : BlobRef). b.store) nat_list_cmp_total) (on_total (λ (b : BlobRef). b.id) nat_list_cmp_total))
 
 -- a store and an id, by the one and then by the other
 abbrev pub place_cmp : List ℕ × List ℕ → List ℕ × List ℕ → Ordering

@@ -42,6 +42,7 @@ mod member;
 mod moment;
 mod name_err;
 mod name_rule;
+mod order;
 mod path_rule;
 mod policy;
 mod policy_name;
