@@ -1,6 +1,6 @@
 -- A match, criterion by criterion.
-use Rattle.std.proofs.Common.{◌≡◌, ℕ, ◌-◌, ◌*◌, ◌≤◌, ◌↔◌, Bool, true, false, true≢false, ◌&&◌, nat_le, List, Option, Some, None, refl, sym, arith}
-use Rattle.std.specs.Prelude.{IsTrue, IfSome}
+use Rattle.std.proofs.Common.{◌≡◌, ℕ, ◌-◌, ◌*◌, ◌≤◌, ◌↔◌, Bool, true, false, true≢false, ◌&&◌, List, Option, Some, None, refl, sym, arith}
+use Rattle.std.specs.Prelude.{IfSome}
 use Rattle.std.proofs.lemmas.Bool.Decides.{nat_tests}
 use Rattle.nx_base.specs.Given.{given}
 use Rattle.nx_base.specs.Cleanup.{day, has_passed}

@@ -1,10 +1,10 @@
 -- Lemmas on the places of an id's text.
-use Rattle.std.proofs.Common.{◌≡◌, ◌≢◌, ◌<◌, ◌≤◌, ℕ, zero, suc, ◌+◌, ◌*◌, ◌/◌, ◌%◌, ◌==◌, List, [], ◌∷◌, length, get_or, drop, Option, Some, None, Bool, true, false, true≢false, is_some, unwrap_or, if◌then◌else◌, cond, arith, refl, sym, ap, ◌∙◌, inl, inr, slice_index, nat_lt}
+use Rattle.std.proofs.Common.{◌≡◌, ◌<◌, ◌≤◌, ℕ, zero, suc, ◌+◌, ◌*◌, ◌/◌, ◌%◌, ◌==◌, List, [], ◌∷◌, length, get_or, drop, Option, Some, None, Bool, true, false, true≢false, is_some, unwrap_or, if◌then◌else◌, arith, refl, sym, ap, ◌∙◌, inl, inr, slice_index, nat_lt}
 use Rattle.std.proofs.lemmas.Bool.{cases_lt}
 use Rattle.std.proofs.lemmas.Bool.Decides.{nat_tests}
 use Rattle.std.proofs.lemmas.List.{at_drop_more, get_or_default}
 use Rattle.std.proofs.Math.ListN.{drop_of_length-le}
-use Rattle.uuid.specs.Text.{by_index, lower, hex_digit, nibble, is_hyphen_place, digit_place, hyphen_place, is_hex_digit, value_of, byte_of_digits, digits_of, has_hyphens, parsed, parsed_simple, parsed_hyphenated, hyphenated_text}
+use Rattle.uuid.specs.Text.{by_index, lower, hex_digit, nibble, is_hyphen_place, digit_place, hyphen_place, is_hex_digit, value_of, byte_of_digits, digits_of, has_hyphens, parsed, hyphenated_text}
 use Rattle.uuid.proofs.TextLemmas.{by_index_length, by_index_at, by_index_same, simple_some, hyphens_pass, nibble_even, nibble_odd, nibble_small}
 use Rattle.nx_base.specs.Ids.{is_id_byte, is_lower_digit}
 use Rattle.nx_base.specs.Ids.{bad_id_place, id_refusal}

@@ -1,11 +1,11 @@
 -- A text that is kept reads as itself.
-use Rattle.std.proofs.Common.{◌≡◌, ℕ, ◌-◌, Bool, true, false, true≢false, if◌then◌else◌, ◌==◌, nat_lt, List, [], ◌∷◌, length, Option, Some, None, Result, Ok, Err, is_ok, is_some, refl, sym, ap, ◌∙◌, arith}
+use Rattle.std.proofs.Common.{◌≡◌, ℕ, Bool, true, false, true≢false, if◌then◌else◌, ◌==◌, nat_lt, List, [], ◌∷◌, length, Option, Some, None, Result, Ok, Err, is_ok, is_some, refl, sym, ap, ◌∙◌}
 use Rattle.nx_base.specs.declared.name_err.NameErr.{NameErr}
-use Rattle.nx_base.specs.declared.name_err.NameErr.TheVariants.{Empty, TooLong, BadByte, BadSegment}
+use Rattle.nx_base.specs.declared.name_err.NameErr.TheVariants.{Empty, TooLong, BadByte}
 use Rattle.nx_base.specs.Texts.{text_of}
 use Rattle.nx_base.specs.Names.{name_of, is_name, is_reserved, store_name_of, is_store_name, is_name_byte}
 use Rattle.nx_base.specs.ContentTypes.{content_type_of, is_content_type, good_type_len}
-use Rattle.nx_base.specs.Paths.{slashed_of, unless_bad, good_len, bad_place, segments_of, is_path, path_of, after_slash, onto_first, behind, file_name_of, is_file_name}
+use Rattle.nx_base.specs.Paths.{slashed_of, unless_bad, good_len, bad_place, segments_of, is_path, path_of, after_slash, onto_first, file_name_of, is_file_name}
 use Rattle.std.specs.List.{prefix_len}
 
 -- an answer that is an Ok isn't the refusal in front

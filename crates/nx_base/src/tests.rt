@@ -194,20 +194,14 @@ fn records_may_go_to_other_threads(rt: HostRuntime) -> Result<(), NameErr> {
     };
     let row = needs_send(Row { key, asset });
     let copy = row.try_clone(alloc).map_err(|_| NameErr::NoMemory)?;
+    let Row { key, asset } = copy;
+    let blob = asset.blob.try_clone(alloc).map_err(|_| NameErr::NoMemory)?;
+    let store = blob.store.try_clone(alloc).map_err(|_| NameErr::NoMemory)?;
     let member = needs_send(Member {
-        store: copy
-            .asset
-            .blob
-            .store
-            .try_clone(alloc)
-            .map_err(|_| NameErr::NoMemory)?,
+        store,
         read_only: false,
     });
-    let marked = needs_send(Marked {
-        blob: copy.asset.blob,
-        at: 2,
-        key: copy.key,
-    });
+    let marked = needs_send(Marked { blob, at: 2, key });
     let again = marked.try_clone(alloc).map_err(|_| NameErr::NoMemory)?;
     assert_eq!(rt; row.key.compare(&again.key), Ordering::Equal);
     assert_eq!(rt; row.asset.blob.compare_age(&again.blob), Ordering::Equal);
