@@ -1,11 +1,11 @@
 -- Lemmas on the places of an id's text.
-use Rattle.std.proofs.Common.{◌≡◌, ◌≢◌, ◌<◌, ◌≤◌, ℕ, zero, suc, ◌+◌, ◌*◌, ◌/◌, ◌%◌, ◌==◌, List, [], ◌∷◌, length, get_or, drop, Option, Some, None, Bool, true, false, true≢false, is_some, unwrap_or, if◌then◌else◌, cond, arith, refl, sym, ap, ◌∙◌, inl, inr, slice_index, nat_lt}
+use Rattle.std.proofs.Common.{◌≡◌, ◌<◌, ◌≤◌, ℕ, zero, suc, ◌+◌, ◌*◌, ◌/◌, ◌%◌, ◌==◌, List, [], ◌∷◌, length, get_or, drop, Option, Some, None, Bool, true, false, true≢false, is_some, unwrap_or, if◌then◌else◌, arith, refl, sym, ap, ◌∙◌, inl, inr, slice_index, nat_lt}
 use Rattle.std.proofs.lemmas.Bool.{cases_lt}
 use Rattle.std.proofs.lemmas.Bool.Decides.{nat_tests}
 use Rattle.std.proofs.lemmas.List.{at_drop_more, get_or_default}
 use Rattle.std.proofs.Math.ListN.{drop_of_length-le}
-use Rattle.uuid.specs.Text.{by_index, lower, hex_digit, nibble, is_hyphen_place, digit_place, hyphen_place, is_hex_digit, value_of, byte_of_digits, digits_of, has_hyphens, parsed, parsed_simple, parsed_hyphenated, hyphenated_text}
-use Rattle.uuid.proofs.TextLemmas.{by_index_length, by_index_at, by_index_same, simple_some, hyphens_pass, nibble_even, nibble_odd}
+use Rattle.uuid.specs.Text.{by_index, lower, hex_digit, nibble, is_hyphen_place, digit_place, hyphen_place, is_hex_digit, value_of, byte_of_digits, digits_of, has_hyphens, parsed, hyphenated_text}
+use Rattle.uuid.proofs.TextLemmas.{by_index_length, by_index_at, by_index_same, simple_some, hyphens_pass, nibble_even, nibble_odd, nibble_small}
 use Rattle.nx_base.specs.Ids.{is_id_byte, is_lower_digit}
 use Rattle.nx_base.specs.Ids.{bad_id_place, id_refusal}
 use Rattle.nx_base.specs.declared.name_err.NameErr.TheVariants.{BadByte}
@@ -166,3 +166,31 @@ pub same_bytes : (t u : List ℕ) → bad_id_place 0 t ≡ None → Some u ≡ p
 same_bytes t u good is_u =
     let same : u ≡ bytes t good = ap (λ (o : Option (List ℕ)). unwrap_or o []) (is_u ∙ sym (parses t good)) in
     rw same (text_back t good)
+
+-- ---- the text of an id is one
+
+-- a text of which each byte stands well
+none_bad : (k : ℕ) (t : List ℕ) → k + length t ≡ 36 → ((j : ℕ) → j < length t → is_id_byte (k + j) (get_or t j 0) ≡ true) → bad_id_place k t ≡ None
+unfolding bad_id_place
+none_bad k [] whole good = let at : (k == 36) ≡ true = grind (arith, nat_tests) in rw at refl
+none_bad k (b ∷ rest) whole good =
+    let here : is_id_byte k b ≡ true = (let same : k + 0 ≡ k = omega arith in rw same at (good 0 (omega arith))) in
+    rw here (none_bad (k + 1) rest (omega arith) (λ j h. let same : k + 1 + j ≡ k + suc j = omega arith in rw same (good (suc j) (omega arith))))
+
+digit-lower : (d : ℕ) → d < 16 → is_lower_digit (hex_digit lower d) ≡ true
+digit-lower d small = grind (arith, nat_tests)
+
+place-good : (hyphen : Bool) (d : ℕ) → d < 16 → (if hyphen then (if hyphen then 45 else hex_digit lower d) == 45 else is_lower_digit (if hyphen then 45 else hex_digit lower d)) ≡ true
+place-good true d small = refl
+place-good false d small = digit-lower d small
+
+text-good : (id : List ℕ) (k : ℕ) → k < 36 → is_id_byte k (get_or (hyphenated_text lower id) k 0) ≡ true
+text-good id k h =
+    rw (by_index_at 36 (λ j. if is_hyphen_place j then 45 else hex_digit lower (nibble id (digit_place j))) k 0 h)
+    (place-good (is_hyphen_place k) (nibble id (digit_place k)) (nibble_small id (digit_place k)))
+
+pub id_refusal-text : (id : List ℕ) → id_refusal (hyphenated_text lower id) ≡ None
+id_refusal-text id =
+    let long : length (hyphenated_text lower id) ≡ 36 = by_index_length 36 _ in
+    refusal_none (hyphenated_text lower id) (omega arith) (omega arith)
+    (none_bad 0 (hyphenated_text lower id) (omega arith) (λ j h. let same : 0 + j ≡ j = omega arith in rw same (text-good id j (omega arith))))

@@ -1,5 +1,5 @@
 -- From an exact answer to what a reader may give.
-use Rattle.std.proofs.Common.{◌≡◌, ℕ, ap, List, Result, Ok, Err}
+use Rattle.std.proofs.Common.{◌≡◌, ℕ, ap, List, Result, Err}
 use Rattle.nx_base.specs.declared.name_err.NameErr.{NameErr}
 use Rattle.nx_base.specs.declared.name_err.NameErr.TheVariants.{Empty, TooLong, BadByte, BadSegment, NoMemory}
 use Rattle.nx_base.specs.NameErr.{Gives, SpeaksOf, refusal_behind}

@@ -1,5 +1,5 @@
 -- How uploads are spread over the members of a group of stores. A file store is a group of one.
-use Rattle.std.specs.Prelude.{ℕ, ◌%◌, Bool, not, List, length, filter, Option, slice_get}
+use Rattle.std.specs.Prelude.{ℕ, ◌%◌, not, List, length, filter, Option, slice_get}
 use Rattle.std.specs.Option.{option_map}
 use Rattle.nx_base.specs.declared.member.Member.{Member}
 use Rattle.nx_base.specs.declared.fill.Fill.{Fill}

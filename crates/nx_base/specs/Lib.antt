@@ -5,6 +5,7 @@ pub mod ContentTypes
 pub mod Paths
 pub mod Ids
 pub mod Order
+pub mod OrderLaws
 pub mod Codes
 pub mod Fills
 pub mod Cleanup

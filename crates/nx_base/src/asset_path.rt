@@ -1,6 +1,6 @@
-ghost use Rattle.std.specs.Prelude.{◌≡◌, ◌+◌, ◌<◌, ◌≤◌, ◌^◌, length, IfOk, IsTrue};
+ghost use Rattle.std.specs.Prelude.{◌≡◌, ◌+◌, ◌<◌, ◌≤◌, ◌^◌, length, Ok, IfOk};
 ghost use Rattle.nx_base.specs.NameErr.{Gives, refusal_behind, SpeaksOf};
-ghost use Rattle.nx_base.specs.Paths.{path_of, is_path, after_slash};
+ghost use Rattle.nx_base.specs.Paths.{path_of, after_slash};
 
 use crate::name_err::{NameErr, NoMemory};
 use crate::path_rule::read_slashed;
@@ -72,14 +72,14 @@ impl AssetPath {
 
     pub fn as_bytes(&self) -> &[u8]
         ensures text { result.now ≡ self.now }
-        ensures rule { IsTrue (is_path self.now) }
+        ensures reads { path_of self.now ≡ Ok self.now }
     {
         self.text.as_bytes()
     }
 
     pub fn as_str(&self) -> &str
         ensures text { result.now ≡ self.now }
-        ensures rule { IsTrue (is_path self.now) }
+        ensures reads { path_of self.now ≡ Ok self.now }
     {
         self.text.as_str()
     }
@@ -87,7 +87,7 @@ impl AssetPath {
     pub fn try_clone(&self, alloc: Global) -> Result<AssetPath, NoMemory>
         ensures { IfOk result (λ path. path ≡ self.now) }
     {
-        let text = owned(alloc, self.as_str())?;
+        let text = owned(alloc, self.text.as_str())?;
         Ok(AssetPath { text })
     }
 }

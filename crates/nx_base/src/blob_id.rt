@@ -1,7 +1,10 @@
-ghost use Rattle.std.specs.Prelude.{◌≡◌, ◌↔◌, ◌<◌, ◌^◌, ℕ, List, None, Some, IsOk, IfOk, IfErr};
+ghost use Rattle.std.specs.Prelude.{◌≡◌, ◌↔◌, ◌<◌, ◌^◌, ℕ, List, length, None, Some, IsOk, IfOk, IfErr};
+ghost use Rattle.nx_base.specs.Texts.{name_cmp};
 ghost use Rattle.nx_base.specs.Ids.{id_made, id_text, is_id_byte, id_refusal};
 
 use crate::name_err::NameErr;
+use crate::text::compare_texts;
+use std::cmp::Ordering;
 use std::marker::Model;
 use uuid::{Builder, Uuid};
 
@@ -34,6 +37,16 @@ fn is_id_byte(at: usize, byte: u8) -> bool
     }
 }
 
+// The order of two ids' bytes, which is that of their texts.
+fn compare_ids(a: &[u8], b: &[u8]) -> Ordering
+    requires a_len { length a.now ≡ 16 }
+    requires b_len { length b.now ≡ 16 }
+    ensures bytes { result ≡ name_cmp a.now b.now }
+    ensures texts { result ≡ name_cmp (id_text a.now) (id_text b.now) }
+{
+    compare_texts(a, b)
+}
+
 impl BlobId {
     /// The id of version 7 (RFC 9562, section 5.7) of a stamp in milliseconds and ten random bytes.
     pub fn made(stamp: u64, random: &[u8; 10]) -> BlobId
@@ -47,14 +60,24 @@ impl BlobId {
     }
 
     pub fn as_bytes(&self) -> &[u8]
-        ensures { result.now ≡ self.now }
+        ensures bytes { result.now ≡ self.now }
+        ensures len { length result.now ≡ 16 }
     {
         &self.bytes
     }
 
+    /// The order of ids: that of their bytes, and so that of their texts.
+    pub fn compare(&self, other: &BlobId) -> Ordering
+        ensures bytes { result ≡ name_cmp self.now other.now }
+        ensures texts { result ≡ name_cmp (id_text self.now) (id_text other.now) }
+    {
+        compare_ids(&self.bytes, &other.bytes)
+    }
+
     /// The id in 36 characters, with hexadecimal digits in lower case.
     pub fn text(&self) -> [u8; 36]
-        ensures { result ≡ id_text self.now }
+        ensures text { result ≡ id_text self.now }
+        ensures readable { id_refusal result ≡ None }
     {
         let mut buffer = Uuid::encode_buffer();
         let uuid = Uuid::from_bytes(self.bytes);

@@ -3,7 +3,9 @@ ghost use Rattle.std.specs.Prelude.{◌≡◌, IfOk};
 use crate::blob_id::BlobId;
 use crate::name_err::NoMemory;
 use crate::store_name::StoreName;
+use crate::text::compare_texts;
 use std::alloc::Global;
+use std::cmp::Ordering;
 
 /// A blob: its store, its id and its stamp.
 #[derive(Debug, Drop)]
@@ -15,6 +17,24 @@ pub struct BlobRef {
 }
 
 impl BlobRef {
+    ghost use Rattle.nx_base.specs.Order.{age_cmp};
+
+    /// The order of blobs from the oldest: by stamp, then by store, then by id.
+    pub fn compare_age(&self, other: &BlobRef) -> Ordering
+        ensures { result ≡ age_cmp self.now other.now }
+    {
+        if self.stamp < other.stamp {
+            return Ordering::Less;
+        }
+        if other.stamp < self.stamp {
+            return Ordering::Greater;
+        }
+        match compare_texts(self.store.as_bytes(), other.store.as_bytes()) {
+            Ordering::Equal => self.id.compare(&other.id),
+            unequal => unequal,
+        }
+    }
+
     pub fn try_clone(&self, alloc: Global) -> Result<BlobRef, NoMemory>
         ensures { IfOk result (λ blob. blob ≡ self.now) }
     {

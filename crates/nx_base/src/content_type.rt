@@ -1,7 +1,7 @@
-ghost use Rattle.std.specs.Prelude.{◌≡◌, Ok, Err, IfOk, IsTrue, MatchResult, ◌≤◌, length};
+ghost use Rattle.std.specs.Prelude.{◌≡◌, Ok, Err, IfOk, MatchResult, ◌≤◌, length};
 ghost use Rattle.std.specs.List.{prefix_len};
 ghost use Rattle.nx_base.specs.NameErr.{Gives};
-ghost use Rattle.nx_base.specs.ContentTypes.{content_type_of, is_content_type, is_printing, good_type_len};
+ghost use Rattle.nx_base.specs.ContentTypes.{content_type_of, is_printing, good_type_len};
 
 use crate::name_err::{NameErr, NoMemory};
 use crate::text::owned;
@@ -91,14 +91,14 @@ impl ContentType {
 
     pub fn as_bytes(&self) -> &[u8]
         ensures text { result.now ≡ self.now }
-        ensures rule { IsTrue (is_content_type self.now) }
+        ensures reads { content_type_of self.now ≡ Ok self.now }
     {
         self.text.as_bytes()
     }
 
     pub fn as_str(&self) -> &str
         ensures text { result.now ≡ self.now }
-        ensures rule { IsTrue (is_content_type self.now) }
+        ensures reads { content_type_of self.now ≡ Ok self.now }
     {
         self.text.as_str()
     }
@@ -106,7 +106,7 @@ impl ContentType {
     pub fn try_clone(&self, alloc: Global) -> Result<ContentType, NoMemory>
         ensures { IfOk result (λ t. t ≡ self.now) }
     {
-        let text = owned(alloc, self.as_str())?;
+        let text = owned(alloc, self.text.as_str())?;
         Ok(ContentType { text })
     }
 }

@@ -1,6 +1,6 @@
-ghost use Rattle.std.specs.Prelude.{◌≡◌, IfOk, IsTrue};
+ghost use Rattle.std.specs.Prelude.{◌≡◌, Ok, IfOk};
 ghost use Rattle.nx_base.specs.NameErr.{Gives};
-ghost use Rattle.nx_base.specs.Paths.{file_name_of, is_file_name};
+ghost use Rattle.nx_base.specs.Paths.{file_name_of};
 
 use crate::name_err::{NameErr, NoMemory};
 use crate::path_rule::read_slashed;
@@ -45,14 +45,14 @@ impl Name {
 
     pub fn as_bytes(&self) -> &[u8]
         ensures text { result.now ≡ self.now }
-        ensures rule { IsTrue (is_file_name self.now) }
+        ensures reads { file_name_of self.now ≡ Ok self.now }
     {
         self.text.as_bytes()
     }
 
     pub fn as_str(&self) -> &str
         ensures text { result.now ≡ self.now }
-        ensures rule { IsTrue (is_file_name self.now) }
+        ensures reads { file_name_of self.now ≡ Ok self.now }
     {
         self.text.as_str()
     }
@@ -60,7 +60,7 @@ impl Name {
     pub fn try_clone(&self, alloc: Global) -> Result<Name, NoMemory>
         ensures { IfOk result (λ name. name ≡ self.now) }
     {
-        let text = owned(alloc, self.as_str())?;
+        let text = owned(alloc, self.text.as_str())?;
         Ok(Name { text })
     }
 }

@@ -1,6 +1,6 @@
-ghost use Rattle.std.specs.Prelude.{◌≡◌, IfOk, IsTrue};
+ghost use Rattle.std.specs.Prelude.{◌≡◌, Ok, IfOk};
 ghost use Rattle.nx_base.specs.NameErr.{Gives};
-ghost use Rattle.nx_base.specs.Names.{name_of, is_name};
+ghost use Rattle.nx_base.specs.Names.{name_of};
 
 use crate::name_err::{NameErr, NoMemory};
 use crate::name_rule::read_name;
@@ -40,14 +40,14 @@ impl RepoName {
 
     pub fn as_bytes(&self) -> &[u8]
         ensures text { result.now ≡ self.now }
-        ensures name { IsTrue (is_name self.now) }
+        ensures reads { name_of self.now ≡ Ok self.now }
     {
         self.text.as_bytes()
     }
 
     pub fn as_str(&self) -> &str
         ensures text { result.now ≡ self.now }
-        ensures name { IsTrue (is_name self.now) }
+        ensures reads { name_of self.now ≡ Ok self.now }
     {
         self.text.as_str()
     }
@@ -55,7 +55,7 @@ impl RepoName {
     pub fn try_clone(&self, alloc: Global) -> Result<RepoName, NoMemory>
         ensures { IfOk result (λ name. name ≡ self.now) }
     {
-        let text = owned(alloc, self.as_str())?;
+        let text = owned(alloc, self.text.as_str())?;
         Ok(RepoName { text })
     }
 }

@@ -1,6 +1,6 @@
-ghost use Rattle.std.specs.Prelude.{◌≡◌, IfOk, IsTrue};
+ghost use Rattle.std.specs.Prelude.{◌≡◌, Ok, IfOk};
 ghost use Rattle.nx_base.specs.NameErr.{Gives};
-ghost use Rattle.nx_base.specs.Names.{store_name_of, is_store_name, is_reserved};
+ghost use Rattle.nx_base.specs.Names.{store_name_of, is_reserved};
 
 use crate::name_err::{NameErr, NoMemory};
 use crate::name_rule::read_name;
@@ -57,14 +57,14 @@ impl StoreName {
 
     pub fn as_bytes(&self) -> &[u8]
         ensures text { result.now ≡ self.now }
-        ensures name { IsTrue (is_store_name self.now) }
+        ensures reads { store_name_of self.now ≡ Ok self.now }
     {
         self.text.as_bytes()
     }
 
     pub fn as_str(&self) -> &str
         ensures text { result.now ≡ self.now }
-        ensures name { IsTrue (is_store_name self.now) }
+        ensures reads { store_name_of self.now ≡ Ok self.now }
     {
         self.text.as_str()
     }
@@ -72,7 +72,7 @@ impl StoreName {
     pub fn try_clone(&self, alloc: Global) -> Result<StoreName, NoMemory>
         ensures { IfOk result (λ name. name ≡ self.now) }
     {
-        let text = owned(alloc, self.as_str())?;
+        let text = owned(alloc, self.text.as_str())?;
         Ok(StoreName { text })
     }
 }

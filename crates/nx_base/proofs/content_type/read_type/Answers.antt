@@ -1,4 +1,4 @@
-use Rattle.std.proofs.Common.{arith, ◌≤◌, ◌<◌, length, ◌≡◌}
+use Rattle.std.proofs.Common.{arith, ◌≤◌, ◌<◌, length}
 use Rattle.std.proofs.lemmas.Bool.Decides.{nat_tests}
 use Rattle.nx_base.specs.ContentTypes.{good_type_len}
 use Rattle.nx_base.proofs.AsciiLemmas.{IsUtf8-from_printing, all-print}

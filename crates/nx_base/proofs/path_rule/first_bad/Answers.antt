@@ -1,9 +1,9 @@
-use Rattle.std.proofs.Common.{◌≡◌, ◌+◌, sym, ap, ◌∙◌, cond, Some, None, Bool, ℕ, Option, drop, arith}
+use Rattle.std.proofs.Common.{◌+◌, sym, ap, ◌∙◌, cond, Some, None, Bool, drop, arith}
 use Rattle.nx_base.specs.Paths.{bad_place, segments_of}
 use Rattle.nx_base.proofs.PathLemmas.{place_more, place_last}
 use Rattle.nx_base.proofs.path_rule.first_bad.Goals as goal
 use Rattle.std.proofs.lemmas.Bool.{cases_lt}
-use Rattle.std.proofs.Common.{inl, inr, length, ◌<◌, ◌≤◌}
+use Rattle.std.proofs.Common.{inl, inr, length, ◌<◌}
 
 pub returns-then-is_bad-clause-place : goal.returns-then-is_bad-clause-place
 returns-then-is_bad-clause-place c =

@@ -1,7 +1,7 @@
-use Rattle.std.proofs.Common.{◌≡◌, ◌≤◌, ◌∙◌, sym, arith, length}
+use Rattle.std.proofs.Common.{◌≡◌, ◌∙◌, sym, arith, length}
 use Rattle.std.specs.List.{prefix_len}
 use Rattle.std.proofs.lemmas.List.Sums.{prefix_len-le-length}
-use Rattle.nx_base.specs.Paths.{is_path_byte, good_len}
+use Rattle.nx_base.specs.Paths.{is_path_byte}
 use Rattle.nx_base.proofs.PathLemmas.{good_len-utf8}
 use Rattle.nx_base.proofs.path_rule.read_bytes.Goals as goal
 

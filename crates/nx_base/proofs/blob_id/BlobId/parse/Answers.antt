@@ -1,7 +1,7 @@
-use Rattle.std.proofs.Common.{rules, ◌≡◌, ◌∙◌, sym, ap, refl, length, None, Some, true, false, true≢false, is_some, is_ok, arith, if◌then◌else◌, ◌==◌, unwrap_or, List, ℕ, Option}
+use Rattle.std.proofs.Common.{rules, ◌∙◌, sym, ap, refl, length, true≢false, is_some, arith}
 use Rattle.std.proofs.lemmas.Bool.Decides.{nat_tests}
-use Rattle.nx_base.specs.Ids.{id_refusal, id_text}
-use Rattle.nx_base.proofs.IdPlaces.{bad_here, bad_later, bad_end, no_bad, parses, bytes, bad_short, bad_whole, same_bytes, refusal_is, refusal_none}
+use Rattle.nx_base.specs.Ids.{id_text}
+use Rattle.nx_base.proofs.IdPlaces.{bad_here, bad_later, parses, bytes, bad_short, bad_whole, same_bytes, refusal_is, refusal_none}
 use Rattle.nx_base.proofs.blob_id.BlobId.parse.Goals as goal
 
 pub loop-at-preserved : goal.loop-at-preserved

@@ -1,0 +1,6 @@
+use Rattle.std.specs.String.{string_bytes}
+use Rattle.nx_base.proofs.ReadsItself.{name_of-same}
+use Rattle.nx_base.proofs.policy_name.PolicyName.as_str.Goals as goal
+
+pub returns-clause-reads : goal.returns-clause-reads
+returns-clause-reads c = rw c.self.view_is at (name_of-same (string_bytes c.self.inside.text) c.self.invariant)

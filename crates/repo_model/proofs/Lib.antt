@@ -1,0 +1,5 @@
+pub mod Trees
+pub mod SpotOrder
+pub mod Storing
+pub mod Histories
+pub mod Oldest

@@ -1,0 +1,9 @@
+use Rattle.std.proofs.Common.{ap, sym, ◌∙◌}
+use Rattle.std.specs.FinMap.{get}
+use Rattle.nx_base.specs.Order.{age_cmp}
+use Rattle.nx_base.proofs.Orders.{age_cmp_total, exact_blobs}
+use Rattle.repo_model.proofs.Trees.{get_at}
+use Rattle.repo_model.proofs.plain.blob_map.BlobMap.get.Goals as goal
+
+pub returns : goal.returns
+returns g c = c.get.ensures.value ∙ sym (get_at age_cmp_total exact_blobs c.self.inside.tree.entries c.args.blob.now) ∙ ap (λ m. get m c.args.blob.now) c.self.view_is
