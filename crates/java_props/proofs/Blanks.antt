@@ -1,12 +1,12 @@
 -- White space and the separator of a logical line, as characters and as pieces.
-use Rattle.std.proofs.Common.{◌≡◌, ◌<◌, ◌≤◌, ◌+◌, ℕ, Bool, true, false, cond, not, eqb, ◌&&◌, ◌||◌, List, [], ◌∷◌, length, get_or, Option, Some, refl, sym, ap, ◌∙◌, ⊎_elim, arith}
+use Rattle.std.proofs.Common.{◌≡◌, ◌<◌, ◌≤◌, ◌+◌, ℕ, Bool, true, false, cond, not, eqb, ◌||◌, List, [], ◌∷◌, length, get_or, Some, refl, sym, ap, ◌∙◌, ⊎_elim, arith}
 use Rattle.std.specs.Prelude.{◌≢◌}
 use Rattle.std.proofs.lemmas.Bool.{cases_lt}
 use Rattle.std.proofs.lemmas.Bool.Decides.{nat_tests}
 use Rattle.java_props.specs.Lines.{Cell, is_white_byte, is_white, is_backslash, trim}
 use Rattle.java_props.specs.From.{rest, middle, line, later, ends_at, Stands, AtEnd}
 use Rattle.java_props.specs.Reading.{Piece, pieces, piece_at, length_after, escape_unit, escape_length, is_blank, is_plain, is_separator, after_blanks, after_separator, after_gap}
-use Rattle.java_props.proofs.Steps.{one_step, two_step, line_ends, plain_unit, end_line}
+use Rattle.java_props.proofs.Steps.{one_step, two_step, line_ends, plain_unit}
 
 is_slash : (b : ℕ) → eqb b 92 ≡ true → b ≡ 92
 is_slash b h = grind (arith, nat_tests)

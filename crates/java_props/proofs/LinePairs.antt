@@ -1,5 +1,5 @@
 -- The pair of a line, and the pairs of lines one after another.
-use Rattle.std.proofs.Common.{◌≡◌, ◌<◌, ◌≤◌, ltb, MatchResult, IfErr, subst, arith, ℕ, Bool, true, false, cond, List, [], ◌∷◌, ◌++◌, length, get_or, Result, Ok, Err, refl, sym, ap, ◌∙◌}
+use Rattle.std.proofs.Common.{◌≡◌, ◌<◌, ◌≤◌, ltb, MatchResult, IfErr, subst, arith, ℕ, Bool, true, false, cond, List, [], ◌∷◌, length, Result, Ok, Err, refl, sym, ap, ◌∙◌}
 use Rattle.std.proofs.lemmas.Bool.Decides.{nat_tests}
 use Rattle.java_props.specs.declared.PropsErr.{PropsErr}
 use Rattle.java_props.specs.declared.PropsErr.TheVariants.{TooLong, TooMany}

@@ -1,9 +1,9 @@
 -- Lines that are skipped, and where logical lines begin.
-use Rattle.std.proofs.Common.{◌≡◌, ◌<◌, ◌≤◌, ◌+◌, ℕ, Bool, true, false, cond, not, eqb, ◌&&◌, ◌||◌, List, [], ◌∷◌, length, get_or, refl, sym, ap, ◌∙◌, ⊎_elim, arith}
+use Rattle.std.proofs.Common.{◌≡◌, ◌<◌, ◌≤◌, ◌+◌, ℕ, Bool, true, false, cond, not, eqb, ◌&&◌, List, [], ◌∷◌, length, get_or, refl, sym, ap, ◌∙◌, ⊎_elim}
 use Rattle.std.proofs.lemmas.Bool.{false≢true, cases_lt}
 use Rattle.java_props.specs.Lines.{Cell, is_mark_byte, with_front, natural_lines, trim, begins_skipped, is_skipped, goes_on, joined, logical_lines}
 use Rattle.java_props.specs.From.{rest, go_on, middle, trim_first, head_of, others_of, later, lines_from, ends_at, AtEnd}
-use Rattle.java_props.proofs.Middle.{rest-cons, rest-nil, natural-one, natural-end, middle-nil}
+use Rattle.java_props.proofs.Middle.{rest-cons, rest-nil, natural-one, natural-end}
 use Rattle.java_props.proofs.Steps.{end_line, end_text}
 
 -- the first of logical lines, where none before goes on, by whether the natural line is skipped

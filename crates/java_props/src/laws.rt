@@ -7,5 +7,4 @@ pub fn exactly_one_meaning()
     ensures never_both { NeverBoth }
     ensures one_reading { OneReading }
     ensures one_refusal { OneRefusal }
-{
-}
+{}

@@ -33,7 +33,10 @@ const SAID: [(&[u8], &[u8]); 28] = [
     (b"a\\=b\\:c\\ d e", b"a\\=b\\:c\\ d=e\n"),
     // Escapes, also over a joined line.
     (b"\\q\\t\\n\\r\\f=\\ x", b"q\\t\\n\\r\\f=\\ x\n"),
-    (b"a\\u003Db=\\u00e9\\u00E9\xe9", b"a\\=b=\\u00E9\\u00E9\\u00E9\n"),
+    (
+        b"a\\u003Db=\\u00e9\\u00E9\xe9",
+        b"a\\=b=\\u00E9\\u00E9\\u00E9\n",
+    ),
     (b"a=\\u00\\\n  41", b"a=A\n"),
     (b"a=\\uD83D\\uDE00", b"a=\\uD83D\\uDE00\n"),
     (b"a=\\ud83d\\\r\n \\ude00", b"a=\\uD83D\\uDE00\n"),
@@ -98,7 +101,10 @@ fn has_limits(rt: HostRuntime) -> Result<(), Fail> {
     assert_eq!(rt; after_keys(rt.alloc(), b"new")?, many(1280));
     assert_eq!(rt; after_keys(rt.alloc(), b"#c\n  new=\\u")?, many(1285));
     assert_eq!(rt; after_keys(rt.alloc(), b"\\\n  new")?, many(1284));
-    assert_eq!(rt; after_keys(rt.alloc(), b"n\\u")?, Err(PropsErr::BadEscape { at: 1281 }));
+    assert_eq!(rt;
+        after_keys(rt.alloc(), b"n\\u")?,
+        Err(PropsErr::BadEscape { at: 1281 })
+    );
     let mut text = Vec::new(rt.alloc());
     text.resize(65536, b'x')?;
     assert_eq!(rt; read(rt.alloc(), text.as_slice())?.len(), 1);
@@ -120,7 +126,10 @@ fn sets_pairs(rt: HostRuntime) -> Result<(), Fail> {
     assert_eq!(rt; pairs.len(), 3);
     assert_eq!(rt; pairs.get("b"), Some(" 3 "));
     assert_eq!(rt; pairs.get("c"), None);
-    assert_eq!(rt; write(rt.alloc(), &pairs)?.as_slice(), b"a=2\nb=\\ 3 \n\\u00E9=\\!\n".as_slice());
+    assert_eq!(rt;
+        write(rt.alloc(), &pairs)?.as_slice(),
+        b"a=2\nb=\\ 3 \n\\u00E9=\\!\n".as_slice()
+    );
     let text = keys(rt.alloc(), 256)?;
     let mut pairs = read(rt.alloc(), text.as_slice())?;
     assert_eq!(rt; pairs.set(rt.alloc(), "k", "1"), Err(SetErr::Full));

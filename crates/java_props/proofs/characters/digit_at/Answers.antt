@@ -1,4 +1,4 @@
-use Rattle.std.proofs.Common.{◌∙◌, sym, arith}
+use Rattle.std.proofs.Common.{sym, arith}
 use Rattle.java_props.proofs.Steps.{digit_step, no_digit, no_digit_end}
 use Rattle.java_props.proofs.characters.digit_at.Goals as goal
 

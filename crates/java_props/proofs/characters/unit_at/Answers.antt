@@ -1,4 +1,4 @@
-use Rattle.std.proofs.Common.{◌≡◌, ◌∙◌, ◌+◌, ◌∷◌, ℕ, Option, List, None, Some, false, not, eqb, sym, ap, arith, slice_index}
+use Rattle.std.proofs.Common.{◌≡◌, ◌∙◌, ◌+◌, ◌∷◌, ℕ, Option, List, Some, false, not, eqb, ap, arith, slice_index}
 use Rattle.java_props.specs.From.{rest, middle, line}
 use Rattle.java_props.specs.Reading.{Piece, pieces, four_digits}
 use Rattle.java_props.proofs.Steps.{plain_unit, letter_unit, u_pieces}

@@ -1,5 +1,5 @@
-use Rattle.std.proofs.Common.{◌≡◌, ◌∷◌, ◌∙◌, Bool, true, false, Some, not, eqb, sym, ap, subst, List, slice_index}
-use Rattle.std.specs.Char.Utf16.{is_high_surrogate, is_low_surrogate, surrogate_pair_char}
+use Rattle.std.proofs.Common.{◌∷◌, ◌∙◌, Some, not, eqb, sym, ap, subst, List, slice_index}
+use Rattle.std.specs.Char.Utf16.{surrogate_pair_char}
 use Rattle.java_props.specs.declared.PropsErr.TheVariants.{BadSurrogate}
 use Rattle.java_props.specs.Reading.{Piece, pieces}
 use Rattle.java_props.specs.From.{line}

@@ -1,4 +1,4 @@
-use Rattle.std.proofs.Common.{◌≡◌, ◌⊎◌, ℕ, List, Result, Ok, Err, inl, inr, refl}
+use Rattle.std.proofs.Common.{◌≡◌, ◌⊎◌, Result, Ok, Err, inl, inr, refl}
 use Rattle.java_props.specs.declared.PropsErr.{PropsErr}
 use Rattle.java_props.specs.Reading.{reading}
 use Rattle.java_props.proofs.laws.exactly_one_meaning.Goals as goal

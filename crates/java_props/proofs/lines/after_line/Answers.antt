@@ -1,4 +1,4 @@
-use Rattle.std.proofs.Common.{◌≡◌, false, true, sym, ap, ◌∙◌, arith, rules}
+use Rattle.std.proofs.Common.{◌≡◌, false, sym, ap, ◌∙◌, arith, rules}
 use Rattle.java_props.specs.Lines.{logical_lines}
 use Rattle.java_props.specs.From.{AtEnd}
 use Rattle.java_props.proofs.Skips.{others_step, others_end}

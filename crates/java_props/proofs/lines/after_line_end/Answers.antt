@@ -1,5 +1,5 @@
 use Rattle.std.proofs.Common.{arith}
-use Rattle.java_props.proofs.Steps.{end_other, end_last, end_both, end_return}
+use Rattle.java_props.proofs.Steps.{end_last, end_both, end_return}
 use Rattle.java_props.proofs.lines.after_line_end.Goals as goal
 
 pub returns-then-at-bytes-clause-lines : goal.returns-then-at-bytes-clause-lines

@@ -1,6 +1,6 @@
 use Rattle.std.proofs.Common.{◌≡◌, ◌≤◌, ◌-◌, length, false}
 use Rattle.java_props.specs.Lines.{natural_lines}
-use Rattle.java_props.specs.From.{rest, middle, trim_first}
+use Rattle.java_props.specs.From.{rest, trim_first}
 use Rattle.java_props.proofs.lines.after_white.Given as goal
 
 abbrev pub invariant-loop-at : goal.invariant-loop-at

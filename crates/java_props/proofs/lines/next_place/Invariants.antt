@@ -1,6 +1,5 @@
-use Rattle.std.proofs.Common.{◌≡◌, ◌≤◌, ◌-◌, length, false}
-use Rattle.java_props.specs.Lines.{natural_lines}
-use Rattle.java_props.specs.From.{rest, middle, trim_first}
+use Rattle.std.proofs.Common.{◌≡◌, ◌≤◌, ◌-◌, length}
+use Rattle.java_props.specs.From.{rest, middle}
 use Rattle.java_props.proofs.lines.next_place.Given as goal
 
 abbrev pub invariant-loop-at : goal.invariant-loop-at

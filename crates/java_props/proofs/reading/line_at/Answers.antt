@@ -1,9 +1,7 @@
-use Rattle.std.proofs.Common.{◌≡◌, ◌⊎◌, false, Result, Ok, Err, MatchResult, string_bytes, inl, inr, ⊎_elim, sym, ap, ◌∙◌, rules}
-use Rattle.java_props.specs.declared.PropsErr.{PropsErr}
-use Rattle.java_props.specs.declared.PropsErr.TheVariants as refused
+use Rattle.std.proofs.Common.{◌≡◌, false, Ok, Err, string_bytes, inl, inr, ⊎_elim, sym, ap, ◌∙◌, rules}
 use Rattle.java_props.specs.Lines.{trim}
 use Rattle.java_props.specs.From.{head_of, line}
-use Rattle.java_props.specs.Reading.{pieces, text_of, after_gap}
+use Rattle.java_props.specs.Reading.{text_of, after_gap}
 use Rattle.java_props.proofs.LinePairs.{pair_none, pair_bad_key, pair_no_room, pair_value, on_refusal}
 use Rattle.java_props.proofs.reading.line_at.Goals as goal
 

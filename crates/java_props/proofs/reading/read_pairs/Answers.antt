@@ -1,4 +1,4 @@
-use Rattle.std.proofs.Common.{◌≡◌, ◌≤◌, length, Err, [], inl, inr, ⊎_elim, sym, ap, refl, ◌∙◌, rules, arith}
+use Rattle.std.proofs.Common.{◌≡◌, Err, [], inl, inr, ⊎_elim, ◌∙◌, rules, arith}
 use Rattle.java_props.specs.From.{lines_from}
 use Rattle.java_props.proofs.LinePairs.{if_refusal, line_read, line_refused, lines_end, reading-long, reading-lines}
 use Rattle.java_props.proofs.reading.read_pairs.Goals as goal
