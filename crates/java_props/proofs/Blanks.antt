@@ -37,11 +37,11 @@ separator_no_end b h = grind (arith, nat_tests)
 separator_no_slash : (b : ℕ) → is_separator b ≡ true → b ≢ 92
 separator_no_slash b h = grind (arith, nat_tests)
 
-trim_cons : (c : Cell) (cs : List Cell) (b : Bool) → is_white c ≡ b → trim (c ∷ cs) ≡ cond b (trim cs) (c ∷ cs)
+pub trim_cons : (c : Cell) (cs : List Cell) (b : Bool) → is_white c ≡ b → trim (c ∷ cs) ≡ cond b (trim cs) (c ∷ cs)
 unfolding trim
 trim_cons c cs b w = ap (λ b. cond b (trim cs) (c ∷ cs)) w
 
-trim_nil : trim [] ≡ []
+pub trim_nil : trim [] ≡ []
 unfolding trim
 trim_nil = refl
 
@@ -88,7 +88,7 @@ blank_pieces_one c cs false w more =
     ∙ ap (pieces 0) (sym (trim_cons c cs false w))
 
 -- leading white space as pieces
-blank_pieces : (l : List Cell) → after_blanks (pieces 0 l) ≡ pieces 0 (trim l)
+pub blank_pieces : (l : List Cell) → after_blanks (pieces 0 l) ≡ pieces 0 (trim l)
 unfolding pieces after_blanks trim
 blank_pieces [] = refl
 blank_pieces (c ∷ cs) = blank_pieces_one c cs (is_white c) refl (blank_pieces cs)

@@ -31,7 +31,7 @@ reading-lines bytes h = let short : ltb 65536 (length bytes) ≡ false = grind (
 no_key : (pairs : List (List ℕ × List ℕ)) (at : ℕ) (ps : List Piece) (e : PropsErr) → text_of false (key_part ps) ≡ Err e → with_pair pairs at ps ≡ Err e
 no_key pairs at ps e h = ap (λ r. r >>= λ key. cond (has_room key pairs) (text_of false (value_part ps) >>= λ value. Ok (put key value pairs)) (Err (TooMany at))) h
 
-with_key : (pairs : List (List ℕ × List ℕ)) (at : ℕ) (ps : List Piece) (key : List ℕ) (b : Bool) → text_of false (key_part ps) ≡ Ok key → has_room key pairs ≡ b
+pub with_key : (pairs : List (List ℕ × List ℕ)) (at : ℕ) (ps : List Piece) (key : List ℕ) (b : Bool) → text_of false (key_part ps) ≡ Ok key → has_room key pairs ≡ b
     → with_pair pairs at ps ≡ cond b (text_of false (value_part ps) >>= λ value. Ok (put key value pairs)) (Err (TooMany at))
 with_key pairs at ps key b h r =
     ap (λ r. r >>= λ key. cond (has_room key pairs) (text_of false (value_part ps) >>= λ value. Ok (put key value pairs)) (Err (TooMany at))) h
