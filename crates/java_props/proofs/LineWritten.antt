@@ -1,15 +1,15 @@
 -- The text of a key and of a value, and the line of a pair, as they are read.
-use Rattle.std.proofs.Common.{◌≡◌, ◌<◌, ◌≤◌, ◌+◌, ◌&&◌, ◌||◌, ℕ, Bool, true, false, cond, not, eqb, List, [], ◌∷◌, ◌++◌, length, Result, Ok, Err, refl, sym, ap, ◌∙◌, subst, append_assoc, arith}
+use Rattle.std.proofs.Common.{◌≡◌, ◌+◌, ◌&&◌, ℕ, Bool, true, false, not, eqb, List, [], ◌∷◌, ◌++◌, Result, Ok, Err, refl, sym, ap, ◌∙◌, subst, append_assoc}
 use Rattle.std.specs.Prelude.{encode_utf8, encode_utf8_all}
 use Rattle.std.proofs.Math.Utf8.{scalar, scalars}
 use Rattle.std.proofs.lemmas.Bool.{false≢true}
 use Rattle.std.specs.List.{flat_map}
 use Rattle.java_props.specs.declared.PropsErr.{PropsErr}
-use Rattle.java_props.specs.Lines.{Cell, placed, is_line_end, is_white, is_white_byte, is_mark_byte, with_front, natural_lines, trim, logical_lines}
-use Rattle.java_props.specs.From.{middle, trim_first, head_of, others_of}
+use Rattle.java_props.specs.Lines.{Cell, placed, with_front, natural_lines, trim, logical_lines}
+use Rattle.java_props.specs.From.{middle, head_of, others_of}
 use Rattle.java_props.specs.Kept.{put, has_room}
-use Rattle.java_props.specs.Reading.{Piece, pieces, text_of, key_part, after_key, after_blanks, after_gap, value_part, with_pair, ◌>>=◌}
-use Rattle.java_props.specs.Texts.{before, TakesChar}
+use Rattle.java_props.specs.Reading.{pieces, text_of, key_part, after_key, after_blanks, after_gap, with_pair, ◌>>=◌}
+use Rattle.java_props.specs.Texts.{before}
 use Rattle.java_props.specs.Writing.{char_text, guarded_text, value_chars}
 use Rattle.java_props.proofs.Middle.{middle-one, middle-two, middle-end, natural-one, trim-other}
 use Rattle.java_props.proofs.Skips.{keeps}
@@ -26,7 +26,7 @@ absurd_and : (a : Bool) → a && false ≡ false
 absurd_and true = refl
 absurd_and false = refl
 
-append_nil : (xs : List ℕ) → xs ++ [] ≡ xs
+pub append_nil : (xs : List ℕ) → xs ++ [] ≡ xs
 append_nil [] = refl
 append_nil (x ∷ xs) = ap (λ t. x ∷ t) (append_nil xs)
 
@@ -97,11 +97,11 @@ value_safe [] s = refl
 value_safe (c ∷ cs) s = let h = and_parts (scalar c) (scalars cs) s in (guarded_one c h.0).safe (flat_map char_text cs) (subst (λ x. is_safe false x ≡ true) (append_nil (flat_map char_text cs)) (chars_safe cs [] h.1 refl))
 
 -- a written line begins with no white space and no mark
-key_kept : (cs r : List ℕ) → IsKept (flat_map guarded_text cs ++ 61 ∷ r)
+pub key_kept : (cs r : List ℕ) → IsKept (flat_map guarded_text cs ++ 61 ∷ r)
 key_kept [] r = (refl, refl)
 key_kept (c ∷ cs) r = subst IsKept (sym (append_assoc (guarded_text c) (flat_map guarded_text cs) (61 ∷ r))) ((guarded_first c).kept (flat_map guarded_text cs ++ 61 ∷ r))
 
-trim_kept : (n : ℕ) (t : List ℕ) → IsKept t → trim (placed n t) ≡ placed n t
+pub trim_kept : (n : ℕ) (t : List ℕ) → IsKept t → trim (placed n t) ≡ placed n t
 unfolding placed
 trim_kept n [] k = absurd k
 trim_kept n (b ∷ t) k = trim_cons (record { at = n; byte = b }) (placed (n + 1) t) false k.0
@@ -173,3 +173,7 @@ line_kept (b ∷ t) n r s k =
     let c : Cell = record { at = n; byte = b } in
     let cs = placed (n + 1) (t ++ 10 ∷ r) in
     (i.0, keeps (natural_lines false (c ∷ cs)) (c ∷ head_of (natural_lines false cs)) (others_of (natural_lines false cs)) (trim-other c cs k.0 ∙ natural-one false c cs (not_true (ends b) h.0) ∙ with_front-cons c (natural_lines false cs)) k.1 ∙ i.1)
+
+-- no byte of a written line ends it
+pub line_safe : (ks vs : List ℕ) → scalars ks ≡ true → scalars vs ≡ true → is_safe false (flat_map guarded_text ks ++ 61 ∷ value_chars vs) ≡ true
+line_safe ks vs sk sv = key_safe ks (61 ∷ value_chars vs) sk (value_safe vs sv)

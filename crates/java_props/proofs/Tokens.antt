@@ -1,11 +1,11 @@
 -- How each written character is read.
-use Rattle.std.proofs.Common.{◌≡◌, ◌≢◌, ◌<◌, ◌≤◌, ◌+◌, ◌-◌, ◌*◌, ◌/◌, ◌%◌, ◌^◌, ◌&&◌, ◌||◌, ◌⊎◌, ℕ, Bool, true, false, cond, not, eqb, ltb, List, [], ◌∷◌, ◌++◌, Option, Some, None, refl, sym, ap, ◌∙◌, subst, ⊎_elim, arith}
+use Rattle.std.proofs.Common.{◌≡◌, ◌<◌, ◌≤◌, ◌+◌, ◌-◌, ◌*◌, ◌/◌, ◌%◌, ◌&&◌, ◌||◌, ℕ, Bool, true, false, cond, not, eqb, ltb, List, [], ◌∷◌, ◌++◌, Option, Some, refl, sym, ap, ◌∙◌, subst, ⊎_elim, arith}
 use Rattle.std.proofs.Math.Utf8.{scalar, scalar_cases}
 use Rattle.std.proofs.lemmas.Bool.Decides.{nat_tests}
 use Rattle.std.specs.List.{flat_map}
 use Rattle.std.specs.Char.Escape.{encode_utf16}
 use Rattle.std.specs.Char.Utf16.{is_high_surrogate, is_low_surrogate, surrogate_pair_char}
-use Rattle.java_props.specs.Lines.{Cell, placed, is_white_byte, is_mark_byte}
+use Rattle.java_props.specs.Lines.{placed, is_white_byte, is_mark_byte}
 use Rattle.java_props.specs.Reading.{Piece, pieces, hex_value, with_digit, four_digits, escaped, ends_key, escape_unit, escape_length}
 use Rattle.java_props.specs.Texts.{StartsKey, TakesChar}
 use Rattle.java_props.specs.Writing.{hex_digit, unit_text, is_special, char_text, guarded_text}

@@ -1,6 +1,8 @@
 -- What holds of the definitions.
-use Rattle.std.specs.Prelude.{◌≡◌, ◌⊎◌, ℕ, List}
+use Rattle.std.specs.Prelude.{◌≡◌, ◌≤◌, length, ◌⊎◌, ℕ, List}
 use Rattle.java_props.specs.declared.PropsErr.{PropsErr}
+use Rattle.java_props.specs.Kept.{ArePairs, AreTexts}
+use Rattle.java_props.specs.Writing.{written}
 use Rattle.java_props.specs.Reading.{Reads, Refuses}
 
 -- each text says some pairs, or is refused for some reason
@@ -18,3 +20,7 @@ OneReading = (bytes : List ℕ) (pairs others : List (List ℕ × List ℕ)) →
 -- a text is refused for one reason
 abbrev pub OneRefusal : Type 0
 OneRefusal = (bytes : List ℕ) (e other : PropsErr) → Refuses bytes e → Refuses bytes other → e ≡ other
+
+-- what is written is read as the pairs that were written
+abbrev pub ReadsBack : Type 0
+ReadsBack = (pairs : List (List ℕ × List ℕ)) → ArePairs pairs → AreTexts pairs → length (written pairs) ≤ 65536 → Reads (written pairs) pairs

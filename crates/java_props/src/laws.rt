@@ -1,5 +1,5 @@
 //! Laws of the definitions. Each function does nothing: its contract is the law.
-ghost use Rattle.java_props.specs.Laws.{SomeMeaning, NeverBoth, OneReading, OneRefusal};
+ghost use Rattle.java_props.specs.Laws.{SomeMeaning, NeverBoth, OneReading, OneRefusal, ReadsBack};
 
 /// Each text is read or refused and never both, as one list of pairs or for one reason.
 pub fn exactly_one_meaning()
@@ -7,4 +7,9 @@ pub fn exactly_one_meaning()
     ensures never_both { NeverBoth }
     ensures one_reading { OneReading }
     ensures one_refusal { OneRefusal }
+{}
+
+/// At most 256 pairs of texts, in byte order of distinct keys, are read back from their written form of at most 65,536 bytes.
+pub fn written_is_read()
+    ensures { ReadsBack }
 {}
