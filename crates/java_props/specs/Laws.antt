@@ -1,7 +1,7 @@
 -- What holds of the definitions.
-use Rattle.std.specs.Prelude.{◌≡◌, ◌≤◌, length, ◌⊎◌, ℕ, List}
+use Rattle.std.specs.Prelude.{◌≡◌, ◌≢◌, Some, slice_get, ◌≤◌, length, ◌⊎◌, ℕ, List}
 use Rattle.java_props.specs.declared.PropsErr.{PropsErr}
-use Rattle.java_props.specs.Kept.{ArePairs, AreTexts}
+use Rattle.java_props.specs.Kept.{put, value_of, ArePairs, AreTexts}
 use Rattle.java_props.specs.Writing.{written}
 use Rattle.java_props.specs.Reading.{Reads, Refuses}
 
@@ -24,3 +24,15 @@ OneRefusal = (bytes : List ℕ) (e other : PropsErr) → Refuses bytes e → Ref
 -- what is written is read as the pairs that were written
 abbrev pub ReadsBack : Type 0
 ReadsBack = (pairs : List (List ℕ × List ℕ)) → ArePairs pairs → AreTexts pairs → length (written pairs) ≤ 65536 → Reads (written pairs) pairs
+
+-- a key has the value that was set
+abbrev pub SetGives : Type 0
+SetGives = (key value : List ℕ) (pairs : List (List ℕ × List ℕ)) → value_of key (put key value pairs) ≡ Some value
+
+-- every other key has the value that it had
+abbrev pub SetKeeps : Type 0
+SetKeeps = (key other value : List ℕ) (pairs : List (List ℕ × List ℕ)) → other ≢ key → value_of other (put key value pairs) ≡ value_of other pairs
+
+-- pairs have the value of each key that one of them has
+abbrev pub PairsGive : Type 0
+PairsGive = (pairs : List (List ℕ × List ℕ)) (at : ℕ) (pair : List ℕ × List ℕ) → ArePairs pairs → slice_get pairs at ≡ Some pair → value_of pair.0 pairs ≡ Some pair.1

@@ -1,5 +1,5 @@
 //! Laws of the definitions. Each function does nothing: its contract is the law.
-ghost use Rattle.java_props.specs.Laws.{SomeMeaning, NeverBoth, OneReading, OneRefusal, ReadsBack};
+ghost use Rattle.java_props.specs.Laws.{SomeMeaning, NeverBoth, OneReading, OneRefusal, ReadsBack, SetGives, SetKeeps, PairsGive};
 
 /// Each text is read or refused and never both, as one list of pairs or for one reason.
 pub fn exactly_one_meaning()
@@ -12,4 +12,11 @@ pub fn exactly_one_meaning()
 /// At most 256 pairs of texts, in byte order of distinct keys, are read back from their written form of at most 65,536 bytes.
 pub fn written_is_read()
     ensures { ReadsBack }
+{}
+
+/// To set a key changes its value alone, and each pair is found by its key.
+pub fn pairs_are_a_map()
+    ensures gives { SetGives }
+    ensures keeps { SetKeeps }
+    ensures finds { PairsGive }
 {}
