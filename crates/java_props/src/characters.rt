@@ -1,6 +1,6 @@
 //! One character of a logical line: a byte, an escape, or the two escapes of a surrogate pair.
 ghost use Rattle.std.specs.Prelude.{◌≡◌, true, false, ◌+◌, ◌<◌, ◌≤◌, length, IfOk, IfSome, MatchOption, MatchResult, None, Some};
-ghost use Rattle.java_props.specs.From.{Stands, line, later, ends_at, NoDigit, IsDigit, HasFault, HasUnit};
+ghost use Rattle.java_props.specs.From.{Stands, line, later, pieces_at, ends_at, NoDigit, IsDigit, HasFault, HasUnit};
 ghost use Rattle.java_props.specs.Reading.{hex_value, escaped, four_digits, pieces, next_is_low};
 ghost use Rattle.java_props.specs.Texts.{TakesChar, HasError};
 ghost use Rattle.std.specs.Char.Utf16.{is_low_surrogate, is_high_surrogate, surrogate_pair_char};
@@ -44,7 +44,7 @@ fn four_digits(bytes: &[u8], at: usize) -> Option<(u16, usize)>
     ensures within { IfSome result (λ r. (at < r.1) × (r.1 ≤ length bytes.now)) }
     ensures stands { IfSome result (λ r. Stands bytes.now r.1) }
     ensures number { MatchOption result (four_digits (line bytes.now at) ≡ None) (λ r. four_digits (line bytes.now at) ≡ Some r.0) }
-    ensures moves { IfSome result (λ r. pieces 4 (line bytes.now at) ≡ pieces 0 (line bytes.now r.1)) }
+    ensures moves { IfSome result (λ r. pieces 4 (line bytes.now at) ≡ pieces_at bytes.now r.1) }
     ensures others { IfSome result (λ r. later bytes.now at ≡ later bytes.now r.1) }
 {
     let (a, at) = digit_at(bytes, at)?;
@@ -96,7 +96,7 @@ fn low_at(bytes: &[u8], at: usize) -> Option<(u16, usize)>
     ensures within { IfSome result (λ r. (at < r.1) × (r.1 ≤ length bytes.now)) }
     ensures stands { IfSome result (λ r. Stands bytes.now r.1) }
     ensures low { IfSome result (λ r. is_low_surrogate r.0 ≡ true) }
-    ensures piece { MatchOption result (next_is_low (pieces 0 (line bytes.now at)) ≡ false) (λ r. HasUnit bytes.now at r.0 r.1) }
+    ensures piece { MatchOption result (next_is_low (pieces_at bytes.now at) ≡ false) (λ r. HasUnit bytes.now at r.0 r.1) }
 {
     if is_end(bytes, at) {
         return None;
@@ -119,7 +119,7 @@ pub(crate) fn char_at(bytes: &[u8], at: usize) -> Result<(char, usize), PropsErr
     requires inside { ends_at bytes.now at ≡ false }
     ensures within { IfOk result (λ r. (at < r.1) × (r.1 ≤ length bytes.now)) }
     ensures stands { IfOk result (λ r. Stands bytes.now r.1) }
-    ensures char { MatchResult result (λ r. TakesChar (pieces 0 (line bytes.now at)) r.0 (pieces 0 (line bytes.now r.1))) (λ e. HasError (pieces 0 (line bytes.now at)) e) }
+    ensures char { MatchResult result (λ r. TakesChar (pieces_at bytes.now at) r.0 (pieces_at bytes.now r.1)) (λ e. HasError (pieces_at bytes.now at) e) }
     ensures others { IfOk result (λ r. later bytes.now at ≡ later bytes.now r.1) }
 {
     match unit_at(bytes, at) {
@@ -170,7 +170,7 @@ fn with_unit(bytes: &[u8], at: usize, unit: u16, next: usize) -> Result<(char, u
     requires piece { HasUnit bytes.now at unit next }
     ensures within { IfOk result (λ r. (at < r.1) × (r.1 ≤ length bytes.now)) }
     ensures stands { IfOk result (λ r. Stands bytes.now r.1) }
-    ensures char { MatchResult result (λ r. TakesChar (pieces 0 (line bytes.now at)) r.0 (pieces 0 (line bytes.now r.1))) (λ e. HasError (pieces 0 (line bytes.now at)) e) }
+    ensures char { MatchResult result (λ r. TakesChar (pieces_at bytes.now at) r.0 (pieces_at bytes.now r.1)) (λ e. HasError (pieces_at bytes.now at) e) }
     ensures others { IfOk result (λ r. later bytes.now at ≡ later bytes.now r.1) }
 {
     if is_high(unit) {

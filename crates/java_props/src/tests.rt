@@ -1,5 +1,7 @@
 //! Worked texts, limits and laws, with ample memory.
-use crate::{Pairs, PropsErr, SetErr, exactly_one_meaning, read, write};
+use crate::{
+    Pairs, PropsErr, SetErr, exactly_one_meaning, pairs_are_a_map, read, write, written_is_read,
+};
 use std::alloc::{AllocError, Global};
 use std::test::Fail;
 
@@ -70,6 +72,7 @@ fn reads_worked_texts(rt: HostRuntime) -> Result<(), Fail> {
         }
     }
     exactly_one_meaning();
+    written_is_read();
     Ok(())
 }
 
@@ -116,6 +119,8 @@ fn has_limits(rt: HostRuntime) -> Result<(), Fail> {
     Ok(())
 }
 
+fn crosses_threads<T: Send>(_value: &T) {}
+
 #[test]
 fn sets_pairs(rt: HostRuntime) -> Result<(), Fail> {
     let mut pairs = Pairs::new(rt.alloc());
@@ -126,6 +131,10 @@ fn sets_pairs(rt: HostRuntime) -> Result<(), Fail> {
     assert_eq!(rt; pairs.len(), 3);
     assert_eq!(rt; pairs.get("b"), Some(" 3 "));
     assert_eq!(rt; pairs.get("c"), None);
+    assert_eq!(rt; pairs.pair(1), Some(("b", " 3 ")));
+    assert_eq!(rt; pairs.pair(3), None);
+    crosses_threads(&pairs);
+    pairs_are_a_map();
     assert_eq!(rt;
         write(rt.alloc(), &pairs)?.as_slice(),
         b"a=2\nb=\\ 3 \n\\u00E9=\\!\n".as_slice()
