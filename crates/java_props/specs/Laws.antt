@@ -23,7 +23,8 @@ OneRefusal = (bytes : List ℕ) (e other : PropsErr) → Refuses bytes e → Ref
 
 -- what is written is read as the pairs that were written
 abbrev pub ReadsBack : Type 0
-ReadsBack = (pairs : Entries) → ArePairs pairs → AreTexts pairs → length (written pairs) ≤ 65536 → Reads (written pairs) pairs
+ReadsBack =
+    (pairs : Entries) → ArePairs pairs → AreTexts pairs → length (written pairs) ≤ 65536 → Reads (written pairs) pairs
 
 -- a key has the value that was set
 abbrev pub SetGives : Type 0
@@ -31,8 +32,10 @@ SetGives = (key value : List ℕ) (pairs : Entries) → value_of key (put key va
 
 -- every other key has the value that it had
 abbrev pub SetKeeps : Type 0
-SetKeeps = (key other value : List ℕ) (pairs : Entries) → other ≢ key → value_of other (put key value pairs) ≡ value_of other pairs
+SetKeeps =
+    (key other value : List ℕ) (pairs : Entries) → other ≢ key → value_of other (put key value pairs) ≡ value_of other pairs
 
 -- pairs have the value of each key that one of them has
 abbrev pub PairsGive : Type 0
-PairsGive = (pairs : Entries) (at : ℕ) (pair : List ℕ × List ℕ) → ArePairs pairs → slice_get pairs at ≡ Some pair → value_of pair.0 pairs ≡ Some pair.1
+PairsGive =
+    (pairs : Entries) (at : ℕ) (pair : List ℕ × List ℕ) → ArePairs pairs → slice_get pairs at ≡ Some pair → value_of pair.0 pairs ≡ Some pair.1

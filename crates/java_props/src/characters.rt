@@ -119,7 +119,9 @@ pub(crate) fn char_at(bytes: &[u8], at: usize) -> Result<(char, usize), PropsErr
     requires inside { ends_at bytes.now at ≡ false }
     ensures within { IfOk result (λ r. (at < r.1) × (r.1 ≤ length bytes.now)) }
     ensures stands { IfOk result (λ r. Stands bytes.now r.1) }
-    ensures char { MatchResult result (λ r. TakesChar (pieces_at bytes.now at) r.0 (pieces_at bytes.now r.1)) (λ e. HasError (pieces_at bytes.now at) e) }
+    ensures char { MatchResult result
+        (λ r. TakesChar (pieces_at bytes.now at) r.0 (pieces_at bytes.now r.1))
+        (λ e. HasError (pieces_at bytes.now at) e) }
     ensures others { IfOk result (λ r. later bytes.now at ≡ later bytes.now r.1) }
 {
     match unit_at(bytes, at) {
@@ -170,7 +172,9 @@ fn with_unit(bytes: &[u8], at: usize, unit: u16, next: usize) -> Result<(char, u
     requires piece { HasUnit bytes.now at unit next }
     ensures within { IfOk result (λ r. (at < r.1) × (r.1 ≤ length bytes.now)) }
     ensures stands { IfOk result (λ r. Stands bytes.now r.1) }
-    ensures char { MatchResult result (λ r. TakesChar (pieces_at bytes.now at) r.0 (pieces_at bytes.now r.1)) (λ e. HasError (pieces_at bytes.now at) e) }
+    ensures char { MatchResult result
+        (λ r. TakesChar (pieces_at bytes.now at) r.0 (pieces_at bytes.now r.1))
+        (λ e. HasError (pieces_at bytes.now at) e) }
     ensures others { IfOk result (λ r. later bytes.now at ≡ later bytes.now r.1) }
 {
     if is_high(unit) {

@@ -9,7 +9,7 @@ pub fn exactly_one_meaning()
     ensures one_refusal { OneRefusal }
 {}
 
-/// At most 256 pairs of texts, in byte order of distinct keys, are read back from their written form of at most 65,536 bytes.
+/// At most 256 pairs of texts, in byte order of distinct keys, are read from their written form of at most 65,536 bytes.
 pub fn written_is_read()
     ensures { ReadsBack }
 {}

@@ -1,7 +1,8 @@
 //! The lines of a text, walked by places: line ends, white space, lines that go on, and lines that are skipped.
-ghost use Rattle.std.specs.Prelude.{◌≡◌, true, false, [], ◌+◌, ◌<◌, ◌≤◌, ◌==◌, ◌||◌, length, slice_index, IfSome, MatchOption};
+ghost use Rattle.std.specs.Prelude.{◌≡◌, ◌+◌, ◌<◌, ◌≤◌, ◌==◌, ◌||◌, true, false, [], length, slice_index, IfSome, MatchOption};
 ghost use Rattle.java_props.specs.Lines.{is_white_byte, is_mark_byte, natural_lines, logical_lines, trim};
-ghost use Rattle.java_props.specs.From.{rest, middle, trim_first, others_of, lines_from, ends_at, Stands, line, later, AtEnd};
+ghost use Rattle.java_props.specs.From.{rest, natural_from, middle_from, trim_first, others_of, lines_from, ends_at};
+ghost use Rattle.java_props.specs.From.{Stands, line, later, AtEnd};
 
 pub(crate) fn is_white(byte: u8) -> bool
     ensures { result ≡ is_white_byte byte }
@@ -31,7 +32,7 @@ pub(crate) fn is_end(bytes: &[u8], at: usize) -> bool
 fn after_white(bytes: &[u8], at: usize) -> usize
     requires { at ≤ length bytes.now }
     ensures within { (at ≤ result) × (result ≤ length bytes.now) }
-    ensures trimmed { trim_first (natural_lines false (rest bytes.now at)) ≡ natural_lines false (rest bytes.now result) }
+    ensures trimmed { trim_first (natural_from bytes.now at) ≡ natural_from bytes.now result }
 {
     let mut at = at;
     while at < bytes.len() && is_white(bytes[at]) {
@@ -44,7 +45,7 @@ fn after_white(bytes: &[u8], at: usize) -> usize
 pub(crate) fn after_line_end(bytes: &[u8], at: usize) -> usize
     requires { at < length bytes.now }
     ensures within { (at < result) × (result ≤ length bytes.now) }
-    ensures lines { natural_lines (slice_index bytes.now at == 13) (rest bytes.now (at + 1)) ≡ natural_lines false (rest bytes.now result) }
+    ensures lines { natural_lines (slice_index bytes.now at == 13) (rest bytes.now (at + 1)) ≡ natural_from bytes.now result }
 {
     if bytes[at] != b'\r' {
         return at + 1;
@@ -76,7 +77,7 @@ pub(crate) fn next_line(bytes: &[u8], at: usize) -> usize
 fn after_line(bytes: &[u8], at: usize) -> usize
     requires { at ≤ length bytes.now }
     ensures within { (at ≤ result) × (result ≤ length bytes.now) }
-    ensures lines { logical_lines false (others_of (natural_lines false (rest bytes.now at))) ≡ lines_from bytes.now result }
+    ensures lines { logical_lines false (others_of (natural_from bytes.now at)) ≡ lines_from bytes.now result }
 {
     let mut at = at;
     while !is_end(bytes, at) {
@@ -89,7 +90,7 @@ fn after_line(bytes: &[u8], at: usize) -> usize
 pub(crate) fn next_place(bytes: &[u8], at: usize) -> usize
     requires { at ≤ length bytes.now }
     ensures within { (at ≤ result) × (result ≤ length bytes.now) }
-    ensures same { middle (rest bytes.now at) ≡ middle (rest bytes.now result) }
+    ensures same { middle_from bytes.now at ≡ middle_from bytes.now result }
     ensures stands { Stands bytes.now result }
 {
     let mut at = at;
@@ -134,7 +135,7 @@ fn begins_comment(byte: u8) -> bool
 pub(crate) fn begin(bytes: &[u8], at: usize) -> Option<usize>
     requires { at ≤ length bytes.now }
     ensures within { IfSome result (λ i. (at ≤ i) × (i < length bytes.now)) }
-    ensures lines { MatchOption result (lines_from bytes.now at ≡ []) (λ i. lines_from bytes.now at ≡ middle (rest bytes.now i)) }
+    ensures lines { MatchOption result (lines_from bytes.now at ≡ []) (λ i. lines_from bytes.now at ≡ middle_from bytes.now i) }
 {
     let mut at = at;
     while at < bytes.len() {

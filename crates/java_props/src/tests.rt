@@ -6,7 +6,12 @@ use std::alloc::{AllocError, Global};
 use std::test::Fail;
 
 /// Texts and the written form of what they say.
-const SAID: [(&[u8], &[u8]); 28] = [
+const SAID: [(&[u8], &[u8]); 29] = [
+    // The properties of a blob, as Java writes them.
+    (
+        b"#Blob\n#Tue Nov 14 22:13:20 UTC 2023\nsize=3\n@BlobStore.created-by=admin\n@BlobStore.blob-name=/a\\:b.txt\ncreationTime=1700000000000\n@BlobStore.content-type=text/plain\n@Bucket.repo-name=files\nsha1=a9993e364706816aba3e25717850c26c9cd0d89d\n",
+        b"@BlobStore.blob-name=/a\\:b.txt\n@BlobStore.content-type=text/plain\n@BlobStore.created-by=admin\n@Bucket.repo-name=files\ncreationTime=1700000000000\nsha1=a9993e364706816aba3e25717850c26c9cd0d89d\nsize=3\n",
+    ),
     // Lines: joined, the last value, comments, blank lines, ends of all three kinds.
     (b"key\\\n  more = x\n", b"keymore=x\n"),
     (b"a=1\na=2\n", b"a=2\n"),
