@@ -1,6 +1,7 @@
 -- What holds of the definitions.
-use Rattle.std.specs.Prelude.{◌≡◌, ◌≢◌, Some, slice_get, ◌≤◌, length, ◌⊎◌, ℕ, List}
+use Rattle.std.specs.Prelude.{◌<◌, slice_index, ◌≡◌, ◌≢◌, Some, slice_get, ◌≤◌, length, ◌⊎◌, ℕ, List}
 use Rattle.java_props.specs.declared.PropsErr.{PropsErr}
+use Rattle.java_props.specs.declared.PropsErr.TheVariants.{TooLong, BadEscape, BadSurrogate, TooMany, NoMemory}
 use Rattle.java_props.specs.Kept.{Entries, put, value_of, ArePairs, AreTexts}
 use Rattle.java_props.specs.Writing.{written}
 use Rattle.java_props.specs.Reading.{Reads, Refuses}
@@ -39,3 +40,19 @@ SetKeeps =
 abbrev pub PairsGive : Type 0
 PairsGive =
     (pairs : Entries) (at : ℕ) (pair : List ℕ × List ℕ) → ArePairs pairs → slice_get pairs at ≡ Some pair → value_of pair.0 pairs ≡ Some pair.1
+
+-- a backslash stands here
+abbrev pub HasBackslash : List ℕ → ℕ → Type 0
+HasBackslash bytes at = (at < length bytes) × (slice_index bytes at ≡ 92)
+
+-- what a refusal tells: the length, or the place of a byte of the text; want of memory is none of the text's
+abbrev pub PointsInto : List ℕ → PropsErr → Type 0
+PointsInto bytes (TooLong n) = (n ≡ length bytes) × (65536 < n)
+PointsInto bytes (BadEscape at) = HasBackslash bytes at
+PointsInto bytes (BadSurrogate at) = HasBackslash bytes at
+PointsInto bytes (TooMany at) = at < length bytes
+PointsInto bytes NoMemory = ⊥
+
+-- each refusal of a text of bytes points into it
+abbrev pub RefusalsPoint : Type 0
+RefusalsPoint = (bytes : List ℕ) (e : PropsErr) → ((i : ℕ) → slice_index bytes i < 256) → Refuses bytes e → PointsInto bytes e

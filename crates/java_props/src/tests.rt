@@ -78,6 +78,7 @@ fn reads_worked_texts(rt: HostRuntime) -> Result<(), Fail> {
     }
     exactly_one_meaning();
     written_is_read();
+    refusals_point_into_the_text();
     Ok(())
 }
 
