@@ -1,6 +1,7 @@
 //! Worked texts, limits and laws, with ample memory.
 use crate::{
-    Pairs, PropsErr, SetErr, exactly_one_meaning, pairs_are_a_map, read, write, written_is_read,
+    Pairs, PropsErr, SetErr, exactly_one_meaning, pairs_are_a_map, read,
+    refusals_point_into_the_text, write, written_is_read,
 };
 use std::alloc::{AllocError, Global};
 use std::test::Fail;
