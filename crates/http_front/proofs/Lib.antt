@@ -1,0 +1,9 @@
+mod Own
+mod Kept
+mod Profile
+mod Blanks
+mod Heads
+mod Comes
+mod Seeks
+mod Runs
+mod Ends

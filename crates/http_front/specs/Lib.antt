@@ -1,0 +1,16 @@
+pub mod Asking
+pub mod Contents
+pub mod Responses
+pub mod Entries
+pub mod Answers
+pub mod Said
+pub mod Output
+pub mod Served
+pub mod Rows
+pub mod Buffers
+pub mod Skips
+pub mod Fills
+pub mod Looks
+pub mod Reading
+pub mod Replying
+pub mod Sessions

@@ -1,0 +1,30 @@
+//! What a session says to its requests.
+//!
+//! The words: a *request* is what the input holds (`http_wire`), an *entry* is a call of the repository with its reply
+//! (`repo_model`), an *answer* is the bytes that are said to one request and whether the session ends after them, a *stop* is
+//! what ended a request beside the entries.
+//!
+//! - `response_of` gives the answer to a request by its own entries;
+//! - `said` joins the answers to a list of requests, by the entries that they made, up to the first that ends the session;
+//! - `output_of` makes the entries too: it runs the one-thread repository over the requests.
+//!
+//! Promised here is the law between the last two, `output_is_said`.
+#![tactic(auto)]
+
+mod buffer;
+mod content_reader;
+mod end;
+mod fill;
+mod halt;
+mod head_reader;
+mod laws;
+mod look;
+mod replies;
+mod session;
+mod stop;
+
+pub use end::End;
+pub use laws::{output_is_said, rows_hold};
+pub use replies::{Replies, Unsaid};
+pub use session::run_session;
+pub use stop::Stop;
