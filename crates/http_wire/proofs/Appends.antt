@@ -1,5 +1,5 @@
 -- What more bytes behind a stream leave as it was.
-use Rattle.std.proofs.Common.{◌≡◌, ℕ, ◌+◌, ◌<◌, ◌≤◌, Bool, true, false, cond, eqb, ◌&&◌, List, [], ◌∷◌, ◌++◌, length, take, drop, refl, sym, ap, ◌∙◌, subst, arith, inl, inr, append_assoc, length-append, length-take}
+use Rattle.std.proofs.Common.{◌≡◌, ℕ, ◌≤◌, Bool, true, false, cond, eqb, ◌&&◌, List, [], ◌∷◌, ◌++◌, length, take, refl, sym, ap, subst, arith, inl, inr, length-append}
 use Rattle.std.proofs.lemmas.Bool.{eqb-true}
 use Rattle.std.proofs.lemmas.List.{take-append-le, take_all, length-take-le}
 use Rattle.http_wire.specs.Cut.{drop_blank, EndsHead, IsHeadLen, HasNoHead}
@@ -68,5 +68,5 @@ no_end (front, inl e) = omega (arith, ap length e, length-append front (10 ∷ 1
 no_end (front, inr e) = omega (arith, ap length e, length-append front (10 ∷ 13 ∷ 10 ∷ []))
 
 -- nothing was scanned yet
-pub HasNoHead-none : (bytes : List ℕ) → HasNoHead (take 0 bytes)
-HasNoHead-none bytes m e = no_end (subst EndsHead (take_all m [] (omega arith)) e)
+pub nothing_scanned : (bytes : List ℕ) → HasNoHead (take 0 bytes)
+nothing_scanned bytes m e = no_end (subst EndsHead (take_all m [] (omega arith)) e)

@@ -1,6 +1,6 @@
 -- What stands in front of a stream, whatever bytes come behind.
-use Rattle.std.proofs.Common.{◌≡◌, ◌≢◌, ℕ, ◌+◌, ◌-◌, ◌<◌, ◌≤◌, min, Bool, true, false, IsTrue, ◌↔◌, List, [], ◌∷◌, ◌++◌, length, take, drop, Result, Ok, Err, IfOk, refl, sym, ap, ◌∙◌, subst, arith, inl, inr, append_assoc, append-nil, length-append, length-drop}
-use Rattle.std.proofs.lemmas.List.{take-append-le, take_all, take-take, take-append-drop, length-take, length-take-le, drop-append-le}
+use Rattle.std.proofs.Common.{◌≡◌, ◌≢◌, ℕ, ◌+◌, ◌-◌, ◌<◌, ◌≤◌, min, Bool, true, false, IsTrue, ◌↔◌, List, [], ◌∷◌, ◌++◌, length, take, drop, Result, Ok, Err, IfOk, refl, sym, ap, ◌∙◌, subst, arith, inl, inr, append_assoc, append-nil, length-drop}
+use Rattle.std.proofs.lemmas.List.{take_all, take-take, take-append-drop, length-take, length-take-le, drop-append-le}
 use Rattle.std.proofs.lemmas.Bool.{cases_lt}
 use Rattle.std.proofs.lemmas.List.Folds.{drop_split}
 use Rattle.http_wire.specs.declared.head.Head.{Head}
@@ -10,7 +10,7 @@ use Rattle.http_wire.specs.declared.front.Front.{Front}
 use Rattle.http_wire.specs.declared.front.Front.TheVariants as fronts
 use Rattle.http_wire.specs.Cut.{drop_blank, EndsHead, IsHeadLen, HasNoHead, head_limit}
 use Rattle.http_wire.specs.Head.{GivesHead}
-use Rattle.http_wire.specs.Requests.{Item, refused, whole, cut, FirstHead, HasTooLong, HasBadHead, HasOtherHead, EndsInHead, Accepts, body_len, asks_for_head, IsRefused, AreRequests}
+use Rattle.http_wire.specs.Requests.{Item, refused, whole, cut, FirstHead, HasTooLong, EndsInHead, Accepts, body_len, asks_for_head, IsRefused, AreRequests}
 use Rattle.http_wire.specs.Fronts.{Opens, IsFront}
 use Rattle.http_wire.specs.FrontSteps.{HasNoFirst, IsRefusal}
 use Rattle.http_wire.proofs.Appends.{drop_blank-append, drop_blank-joined, IsHeadLen-append, two_bytes}

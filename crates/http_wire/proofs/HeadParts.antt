@@ -1,10 +1,9 @@
 -- What the parts of a head give.
-use Rattle.std.proofs.Common.{◌≡◌, ℕ, List, [], ◌∷◌, Option, Some, None, IsSome, Result, Ok, Err, IsOk, OnErr, refl, sym, ap, ◌∙◌, subst, unwrap_or}
+use Rattle.std.proofs.Common.{◌≡◌, ℕ, List, [], ◌∷◌, Option, Some, None, IsSome, Result, Ok, Err, IsOk, OnErr, refl, ap, ◌∙◌, subst, unwrap_or}
 use Rattle.std.specs.Option.{option_map}
 use Rattle.std.specs.Result.{result_ok}
 use Rattle.std.specs.List.{slice_get}
 use Rattle.nx_base.specs.declared.name_err.NameErr.{NameErr}
-use Rattle.nx_base.specs.declared.key.Key.{Key}
 use Rattle.nx_base.specs.Paths.{path_of}
 use Rattle.nx_base.specs.ContentTypes.{content_type_of}
 use Rattle.http_wire.specs.Head.{path_text, key_in_files, key_of, type_of, octets}

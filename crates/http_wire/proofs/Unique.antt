@@ -1,14 +1,13 @@
 -- A stream holds one list of requests.
-use Rattle.std.proofs.Common.{◌≡◌, ℕ, ◌<◌, ◌≤◌, ◌⊎◌, Bool, true, false, List, [], ◌∷◌, ◌++◌, length, take, drop, Option, Some, None, refl, sym, ap, subst, ◌∙◌, arith, inl, inr, length-append}
+use Rattle.std.proofs.Common.{◌≡◌, ℕ, ◌<◌, ◌⊎◌, Bool, true, false, List, [], ◌∷◌, ◌++◌, length, take, drop, Some, None, refl, sym, ap, subst, ◌∙◌, arith, inl, inr, length-append}
 use Rattle.std.proofs.lemmas.Bool.{cases_lt}
 use Rattle.std.proofs.lemmas.List.{take_at, drop_at, take-take, take_all}
-use Rattle.httparse.specs.Grammar.{RequestHead}
 use Rattle.httparse.proofs.GrammarLemmas.{request_unique}
 use Rattle.http_wire.proofs.Limits.{head_limit_is}
 use Rattle.http_wire.specs.declared.head.Head.{Head}
 use Rattle.http_wire.specs.declared.head_err.HeadErr.{HeadErr}
 use Rattle.http_wire.specs.declared.head_err.HeadErr.TheVariants.{BadHead, NotBuilt}
-use Rattle.http_wire.specs.Cut.{drop_blank, IsHeadLen, HasNoHead, EndsHead, head_limit}
+use Rattle.http_wire.specs.Cut.{drop_blank, IsHeadLen, EndsHead}
 use Rattle.http_wire.specs.Head.{IsWholeHead, asked_by}
 use Rattle.http_wire.specs.Requests.{Item, refused, whole, cut, FirstHead, HasTooLong, HasBadHead, HasOtherHead, EndsInHead, Accepts, body_len, asks_for_head, IsRefused, AreRequests}
 

@@ -1,5 +1,5 @@
 -- Where the head of a request stands in a stream of bytes.
-use Rattle.std.specs.Prelude.{◌≡◌, ℕ, ◌<◌, ◌≤◌, ◌⊎◌, Bool, ◌&&◌, if◌then◌else◌, ◌==◌, List, [], ◌∷◌, ◌++◌, length, take, codes}
+use Rattle.std.specs.Prelude.{◌≡◌, ℕ, ◌<◌, ◌≤◌, ◌⊎◌, ◌&&◌, if◌then◌else◌, ◌==◌, List, [], ◌∷◌, ◌++◌, length, take, codes}
 use Rattle.httparse.specs.Ascii.{line_feed, carriage_return}
 
 -- the bytes without the line ends in front, each of them CR LF or LF alone (RFC 9112, section 2.2)

@@ -1,6 +1,6 @@
 -- Which texts are heads of requests, and what an accepted head asks for. The profile is this project's own, and not all of
 -- HTTP/1.1: GET without a body, and PUT with a Content-Length, in the repository `files`.
-use Rattle.std.specs.Prelude.{◌≡◌, ℕ, ◌≤◌, Bool, true, false, ◌&&◌, ◌||◌, not, if◌then◌else◌, ◌==◌, nat_le, List, [], ◌∷◌, length, map, drop, Option, Some, None, IsSome, Result, Ok, Err, codes, eqb, bytes_eq, option_map, option_and_then, unwrap_or}
+use Rattle.std.specs.Prelude.{◌≡◌, ℕ, ◌≤◌, Bool, false, ◌&&◌, ◌||◌, not, if◌then◌else◌, ◌==◌, nat_le, List, [], ◌∷◌, length, map, drop, Option, Some, None, IsSome, Result, Ok, Err, codes, eqb, bytes_eq, option_map, option_and_then, unwrap_or}
 use Rattle.std.specs.List.{list_any, starts_with}
 use Rattle.std.specs.Result.{result_ok}
 use Rattle.httparse.specs.Grammar.{RequestHead, ReadsRequest}

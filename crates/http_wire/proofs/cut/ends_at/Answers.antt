@@ -1,5 +1,5 @@
-use Rattle.std.proofs.Common.{arith, ◌≡◌, ◌⊎◌, inl, inr, get_or, true}
-use Rattle.std.proofs.Common.{eqb, ℕ, ap, ◌∙◌}
+use Rattle.std.proofs.Common.{arith, ◌≡◌, inl, inr, true}
+use Rattle.std.proofs.Common.{eqb, ℕ}
 use Rattle.std.proofs.lemmas.Bool.{eqb-true}
 use Rattle.std.proofs.lemmas.Bool.Decides.{eqb_tells}
 use Rattle.http_wire.proofs.CutLemmas.{EndsByBytes-from, EndsHead-from}

@@ -1,7 +1,7 @@
-use Rattle.std.proofs.Common.{ℕ, ◌≡◌, ◌<◌, ◌≤◌, ◌+◌, ◌⊎◌, take, subst, arith, inl, inr, length, sym, refl, ◌∙◌}
+use Rattle.std.proofs.Common.{ℕ, ◌≡◌, ◌+◌, take, subst, arith, inl, inr, length, sym, refl, ◌∙◌}
 use Rattle.std.proofs.lemmas.Bool.{cases_lt, false≢true}
 use Rattle.std.proofs.lemmas.List.{take_all, take-take}
-use Rattle.http_wire.specs.Cut.{EndsHead, IsHeadLen}
+use Rattle.http_wire.specs.Cut.{EndsHead}
 use Rattle.http_wire.proofs.cut.head_len.Goals as goal
 
 pub returns-then-ends_at-clause-found : goal.returns-then-ends_at-clause-found

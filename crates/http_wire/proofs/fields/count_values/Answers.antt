@@ -1,4 +1,4 @@
-use Rattle.std.proofs.Common.{ℕ, List, length, arith, ap}
+use Rattle.std.proofs.Common.{length, arith, ap}
 use Rattle.http_wire.proofs.FieldLemmas.{values_yes, values_no, values_none}
 use Rattle.http_wire.proofs.fields.count_values.Goals as goal
 use Rattle.http_wire.proofs.fields.count_values.Goals.{then-is_named, else-is_named}

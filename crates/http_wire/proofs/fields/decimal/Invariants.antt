@@ -1,8 +1,8 @@
-use Rattle.std.proofs.Common.{◌≡◌, ◌^◌, ◌<◌, take}
+use Rattle.std.proofs.Common.{◌≡◌, take}
 use Rattle.std.specs.Str.Parse.{digits_value, AllDigits}
 use Rattle.std.specs.List.{list_all}
 use Rattle.std.specs.Char.{is_ascii_digit}
-use Rattle.std.proofs.Common.{Bool, true}
+use Rattle.std.proofs.Common.{true}
 use Rattle.http_wire.proofs.fields.decimal.Given as goal
 
 abbrev pub invariant-loop-byte : goal.invariant-loop-byte

@@ -1,4 +1,4 @@
-use Rattle.std.proofs.Common.{ℕ, List, Some, None, length, arith, ap, sym, ◌∙◌}
+use Rattle.std.proofs.Common.{ℕ, List, Some, ap, sym, ◌∙◌}
 use Rattle.std.specs.List.{slice_get}
 use Rattle.http_wire.proofs.FieldLemmas.{values_yes, values_no, values_none}
 use Rattle.http_wire.proofs.fields.first_value.Goals as goal

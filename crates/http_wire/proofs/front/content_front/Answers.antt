@@ -1,4 +1,4 @@
-use Rattle.std.proofs.Common.{arith, sym, ◌∙◌, ap, ◌+◌}
+use Rattle.std.proofs.Common.{arith, ◌+◌}
 use Rattle.http_wire.proofs.Fronting.{content_whole, content_cut}
 use Rattle.http_wire.proofs.front.content_front.Goals as goal
 

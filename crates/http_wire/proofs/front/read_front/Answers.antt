@@ -1,5 +1,4 @@
-use Rattle.std.proofs.Common.{◌≡◌, ℕ, ◌≤◌, min, List, take, drop, length, sym, ap, ◌∙◌, arith}
-use Rattle.std.proofs.lemmas.List.{length-take}
+use Rattle.std.proofs.Common.{◌≡◌, ◌≤◌, min, take, drop, length, sym, ap, ◌∙◌, arith}
 use Rattle.http_wire.specs.Cut.{drop_blank, head_limit}
 use Rattle.http_wire.specs.Requests.{FirstHead}
 use Rattle.http_wire.proofs.Limits.{head_limit_is}

@@ -1,5 +1,5 @@
 use Rattle.std.proofs.Common.{◌≡◌, ℕ, ◌+◌, ◌∷◌, ◌++◌, [], List, Some, take, length, refl, sym, ap, ◌∙◌, subst}
-use Rattle.std.proofs.Common.{Bool, false, true}
+use Rattle.std.proofs.Common.{Bool}
 use Rattle.http_wire.specs.Response.{head_of, plain_text, why, refused_with}
 use Rattle.http_wire.proofs.Refusals.{refused-bare, refused-whole}
 use Rattle.http_wire.proofs.response.refusal_response.Goals as goal

@@ -1,7 +1,6 @@
-use Rattle.std.proofs.Common.{◌≡◌, ℕ, List, codes, Option, Some, None, IsSome, IfOk, refl, ap, sym, ◌∙◌, subst}
+use Rattle.std.proofs.Common.{◌≡◌, ℕ, List, codes, Some, IsSome, refl, ap, sym, ◌∙◌, subst}
 use Rattle.std.specs.Result.{result_ok}
 use Rattle.nx_base.specs.Paths.{path_of}
-use Rattle.nx_base.specs.declared.key.Key.{Key}
 use Rattle.http_wire.specs.Head.{key_in_files, key_of}
 use Rattle.http_wire.proofs.HeadParts.{key_of-none, key_of-some, key_of-good, key_of-bad, on_err}
 use Rattle.http_wire.proofs.target.read_target.Goals as goal
