@@ -3,3 +3,5 @@ pub mod SpotOrder
 pub mod Storing
 pub mod Histories
 pub mod Oldest
+pub mod Lawful
+pub mod Rising
