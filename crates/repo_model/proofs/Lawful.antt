@@ -1,5 +1,5 @@
 -- What each step keeps to, case by case.
-use Rattle.std.proofs.Common.{◌≡◌, ◌≢◌, ℕ, ◌+◌, ◌<◌, ◌≤◌, Bool, true, false, cond, not, ◌&&◌, ◌||◌, List, Option, Some, None, Result, Ok, Err, refl, subst, arith}
+use Rattle.std.proofs.Common.{◌≡◌, ◌≢◌, ℕ, ◌<◌, ◌≤◌, Bool, true, false, cond, not, ◌&&◌, ◌||◌, List, Option, Some, None, Result, Ok, Err, refl, subst, arith}
 use Rattle.std.specs.Prelude.{IfSome, nat_le}
 use Rattle.std.specs.FinMap as map
 use Rattle.nx_base.specs.Given.{given}
@@ -18,8 +18,6 @@ use Rattle.repo_model.specs.declared.call.Look.{Look}
 use Rattle.repo_model.specs.declared.call.Look.TheVariants as look
 use Rattle.repo_model.specs.declared.call.RemoteSaid.{RemoteSaid}
 use Rattle.repo_model.specs.declared.call.RemoteSaid.TheVariants as said
-use Rattle.repo_model.specs.declared.deletion.Deletion.{Deletion}
-use Rattle.repo_model.specs.declared.reply.Cause.{Cause}
 use Rattle.repo_model.specs.declared.reply.Refusal.{Refusal}
 use Rattle.repo_model.specs.declared.reply.Refusal.TheVariants as refusal
 use Rattle.repo_model.specs.declared.reply.Reply.{Reply}
@@ -38,7 +36,7 @@ use Rattle.repo_model.specs.Deleting.{without_row, gone}
 use Rattle.repo_model.specs.Cleaning.{first_match}
 use Rattle.repo_model.specs.Removal.{may_go, without_blob}
 use Rattle.repo_model.specs.Reconciling.{reconciled}
-use Rattle.repo_model.specs.Step.{begun, on_begin, put_reply, on_put, unasked, fetched, on_get, on_delete, on_clean, on_remove, on_reconcile, sound_outcome, outcome}
+use Rattle.repo_model.specs.Step.{begun, on_begin, put_reply, on_put, unasked, fetched, on_get, on_delete, on_clean, on_remove, sound_outcome, outcome}
 use Rattle.repo_model.specs.Laws.{IsLawful}
 
 given_cases : {A B : Type 0} (P : B → Type 0) (o : Option A) (other : B) (f : A → B) → P other → ((x : A) → P (f x)) → P (given o other f)

@@ -1,4 +1,3 @@
-pub mod Trees
 pub mod SpotOrder
 pub mod Storing
 pub mod Histories
