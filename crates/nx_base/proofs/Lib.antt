@@ -6,3 +6,4 @@ pub mod Orders
 pub mod PathLemmas
 pub mod ReadsItself
 pub mod Refusals
+pub mod Trees

@@ -331,4 +331,3 @@ impl Ord for BlobRef {
             .then(self.id.as_bytes().cmp(other.id.as_bytes()))
     }
 }
-

@@ -1,5 +1,5 @@
 -- Where a stamp is left, a content is stored under the next one.
-use Rattle.std.proofs.Common.{◌≡◌, ℕ, ◌+◌, ◌<◌, List, Bool, true, false, cond, max, refl, ap, sym}
+use Rattle.std.proofs.Common.{◌≡◌, ℕ, ◌<◌, List, Bool, cond}
 use Rattle.std.proofs.lemmas.Bool.{lt-leb}
 use Rattle.nx_base.specs.declared.moment.Moment.{Moment}
 use Rattle.nx_base.specs.Ids.{id_made}

@@ -1,7 +1,6 @@
 -- How a key's content is deleted: its row goes, and its blob waits in the trash.
 use Rattle.std.specs.Prelude.{ℕ, Option}
 use Rattle.std.specs.FinMap as map
-use Rattle.nx_base.specs.Given.{given}
 use Rattle.nx_base.specs.Order.{age_cmp}
 use Rattle.nx_base.specs.declared.key.Key.{Key}
 use Rattle.nx_base.specs.declared.asset.Asset.{Asset}

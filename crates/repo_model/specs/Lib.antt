@@ -17,3 +17,4 @@ pub mod Step
 pub mod History
 pub mod Passes
 pub mod Plain
+pub mod Laws

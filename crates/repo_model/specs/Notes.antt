@@ -1,5 +1,5 @@
 -- The notes of what remotes lack: at most 10,000.
-use Rattle.std.specs.Prelude.{ℕ, Bool, if◌then◌else◌, nat_lt, nat_le, List, [], ◌∷◌, fold, Option, Some, None}
+use Rattle.std.specs.Prelude.{ℕ, if◌then◌else◌, nat_lt, nat_le, List, [], ◌∷◌, fold, Option, Some, None}
 use Rattle.std.specs.Option.{option_map}
 use Rattle.std.specs.FinMap as map
 use Rattle.nx_base.specs.Given.{given}

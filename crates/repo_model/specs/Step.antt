@@ -1,5 +1,5 @@
 -- What the repository answers to each call, and what it is afterwards. The first case whose condition holds applies.
-use Rattle.std.specs.Prelude.{◌≡◌, ℕ, Bool, true, false, ◌&&◌, ◌||◌, not, if◌then◌else◌, List, Option, Some, None, Result, Ok, Err}
+use Rattle.std.specs.Prelude.{◌≡◌, ℕ, true, false, ◌&&◌, ◌||◌, not, if◌then◌else◌, List, Option, Some, None, Result, Ok, Err}
 use Rattle.std.specs.FinMap as map
 use Rattle.nx_base.specs.Given.{given}
 use Rattle.nx_base.specs.Fills.{chosen}

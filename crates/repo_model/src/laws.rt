@@ -1,11 +1,27 @@
 //! What the definitions promise. Each function here has an empty body: its contract is the law.
-ghost use Rattle.std.specs.Prelude.{◌≡◌, ℕ, List, [], ◌∷◌, ◌++◌, length};
+ghost use Rattle.std.specs.Prelude.{◌≡◌, ℕ, List, [], ◌∷◌, ◌++◌, length, IfSome};
+ghost use Rattle.repo_model.specs.declared.call.Call.{Call};
 ghost use Rattle.repo_model.specs.declared.entry.Entry.{Entry};
 ghost use Rattle.repo_model.specs.Config.{Config};
 ghost use Rattle.repo_model.specs.State.{State};
+ghost use Rattle.repo_model.specs.Step.{outcome};
 ghost use Rattle.repo_model.specs.History.{Legal, Follows};
+ghost use Rattle.repo_model.specs.Laws.{IsLawful, IsRising, stamps_of, NoneFull};
+
+/// Stamps rise, a refusal changes nothing but the notes, no step breaks the repository, and none
+/// says that the journal is full.
+pub fn each_step_is_lawful()
+    ensures { (c : Config) (s : State) (store : List ℕ) (call : Call) → IfSome (outcome c s store call) (IsLawful s) }
+{}
 
 /// A legal history goes on by one entry.
 pub fn goes_on()
     ensures { (c : Config) (s m t : State) (es : List Entry) (e : Entry) → Legal c s es m → Follows c (length es) m e t → Legal c s (es ++ e ∷ []) t }
+{}
+
+/// In a legal history what is put has greater and greater stamps, and no entry says that the
+/// journal is full.
+pub fn stamps_rise()
+    ensures rise { (c : Config) (s t : State) (es : List Entry) → Legal c s es t → IsRising s.last (stamps_of es) }
+    ensures none_full { (c : Config) (s t : State) (es : List Entry) → Legal c s es t → NoneFull es }
 {}

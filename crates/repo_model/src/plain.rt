@@ -14,6 +14,8 @@ mod policies;
 mod puts;
 mod reconciles;
 mod removes;
+#[cfg(test)]
+mod rows;
 mod serves;
 mod spots;
 mod state;

@@ -1,4 +1,4 @@
-use Rattle.std.proofs.Common.{◌≡◌, ℕ, ◌+◌, length, subst, sym, zero-add}
+use Rattle.std.proofs.Common.{length, subst, sym, zero-add}
 use Rattle.repo_model.specs.History.{Follows}
 use Rattle.repo_model.proofs.Histories.{LegalFrom-push}
 use Rattle.repo_model.proofs.laws.goes_on.Goals as goal

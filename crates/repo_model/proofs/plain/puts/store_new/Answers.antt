@@ -1,5 +1,3 @@
-use Rattle.std.proofs.Common.{rules, arith}
-use Rattle.std.proofs.lemmas.Grind.{common_steps}
 use Rattle.repo_model.specs.Plain.{state_of}
 use Rattle.repo_model.proofs.Storing.{stored_next}
 use Rattle.repo_model.proofs.plain.puts.store_new.Goals as goal

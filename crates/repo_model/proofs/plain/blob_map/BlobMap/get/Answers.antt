@@ -1,8 +1,7 @@
 use Rattle.std.proofs.Common.{ap, sym, ◌∙◌}
 use Rattle.std.specs.FinMap.{get}
-use Rattle.nx_base.specs.Order.{age_cmp}
 use Rattle.nx_base.proofs.Orders.{age_cmp_total, exact_blobs}
-use Rattle.repo_model.proofs.Trees.{get_at}
+use Rattle.nx_base.proofs.Trees.{get_at}
 use Rattle.repo_model.proofs.plain.blob_map.BlobMap.get.Goals as goal
 
 pub returns : goal.returns

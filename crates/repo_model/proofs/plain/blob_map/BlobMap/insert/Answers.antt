@@ -1,8 +1,7 @@
-use Rattle.std.proofs.Common.{ap, sym, ◌∙◌}
+use Rattle.std.proofs.Common.{ap, ◌∙◌}
 use Rattle.std.specs.FinMap.{insert}
-use Rattle.nx_base.specs.Order.{age_cmp}
 use Rattle.nx_base.proofs.Orders.{age_cmp_total, exact_blobs}
-use Rattle.repo_model.proofs.Trees.{one_set}
+use Rattle.nx_base.proofs.Trees.{one_set}
 use Rattle.repo_model.proofs.plain.blob_map.BlobMap.insert.Goals as goal
 
 pub returns-in-Ok-clause-ok : goal.returns-in-Ok-clause-ok

@@ -2,7 +2,7 @@ use Rattle.std.proofs.Common.{ap, sym, ◌∙◌}
 use Rattle.std.specs.Cmp.Lexicographic.{nat_list_cmp_total}
 use Rattle.std.specs.FinMap.{get}
 use Rattle.std.proofs.lemmas.Map.Lookups.{exact_bytes}
-use Rattle.repo_model.proofs.Trees.{get_at}
+use Rattle.nx_base.proofs.Trees.{get_at}
 use Rattle.repo_model.proofs.plain.counts.Counts.get.Goals as goal
 
 pub returns : goal.returns

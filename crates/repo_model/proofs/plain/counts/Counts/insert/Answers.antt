@@ -2,7 +2,7 @@ use Rattle.std.proofs.Common.{ap, ◌∙◌}
 use Rattle.std.specs.Cmp.Lexicographic.{nat_list_cmp_total}
 use Rattle.std.specs.FinMap.{insert}
 use Rattle.std.proofs.lemmas.Map.Lookups.{exact_bytes}
-use Rattle.repo_model.proofs.Trees.{one_set}
+use Rattle.nx_base.proofs.Trees.{one_set}
 use Rattle.repo_model.proofs.plain.counts.Counts.insert.Goals as goal
 use Rattle.repo_model.proofs.plain.counts.Counts.insert.Goals.{in-Ok, in-Err}
 

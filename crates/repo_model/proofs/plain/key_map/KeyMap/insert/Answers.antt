@@ -1,8 +1,7 @@
-use Rattle.std.proofs.Common.{ap, sym, ◌∙◌}
+use Rattle.std.proofs.Common.{ap, ◌∙◌}
 use Rattle.std.specs.FinMap.{insert}
-use Rattle.nx_base.specs.Order.{key_cmp}
 use Rattle.nx_base.proofs.Orders.{key_cmp_total, exact_keys}
-use Rattle.repo_model.proofs.Trees.{one_set}
+use Rattle.nx_base.proofs.Trees.{one_set}
 use Rattle.repo_model.proofs.plain.key_map.KeyMap.insert.Goals as goal
 
 pub returns-in-Ok-clause-ok : goal.returns-in-Ok-clause-ok

@@ -1,8 +1,7 @@
 use Rattle.std.proofs.Common.{ap, sym, ◌∙◌}
 use Rattle.std.specs.FinMap.{len}
-use Rattle.nx_base.specs.Order.{key_cmp}
 use Rattle.nx_base.proofs.Orders.{key_cmp_total, exact_keys}
-use Rattle.repo_model.proofs.Trees.{len_is}
+use Rattle.nx_base.proofs.Trees.{len_is}
 use Rattle.repo_model.proofs.plain.key_map.KeyMap.len.Goals as goal
 
 pub returns : goal.returns

@@ -1,7 +1,7 @@
 use Rattle.std.proofs.Common.{ap, ◌∙◌}
 use Rattle.std.specs.FinSet.{insert}
 use Rattle.repo_model.proofs.SpotOrder.{spot_cmp_total, exact_spots}
-use Rattle.repo_model.proofs.Trees.{one_added}
+use Rattle.nx_base.proofs.Trees.{one_added}
 use Rattle.repo_model.proofs.plain.spots.Spots.insert.Goals as goal
 use Rattle.repo_model.proofs.plain.spots.Spots.insert.Goals.{in-Ok, in-Err}
 

@@ -1,7 +1,7 @@
-use Rattle.std.proofs.Common.{ap, sym, ◌∙◌}
+use Rattle.std.proofs.Common.{ap, ◌∙◌}
 use Rattle.std.specs.FinSet.{remove}
 use Rattle.repo_model.proofs.SpotOrder.{spot_cmp_total, exact_spots}
-use Rattle.repo_model.proofs.Trees.{one_dropped}
+use Rattle.nx_base.proofs.Trees.{one_dropped}
 use Rattle.repo_model.proofs.plain.spots.Spots.remove.Goals as goal
 
 pub returns : goal.returns

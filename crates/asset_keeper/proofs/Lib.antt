@@ -1,0 +1,5 @@
+pub mod Paging
+pub mod Reading
+pub mod Copying
+pub mod InRange
+pub mod Pages
