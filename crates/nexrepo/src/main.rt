@@ -16,6 +16,8 @@ mod responses;
 mod run;
 mod status;
 mod stored_asset;
+#[cfg(test)]
+mod tests;
 mod words;
 
 use crate::run::run;
