@@ -91,6 +91,19 @@ fn session(
     Ok((status, Vec::from_slice(alloc, sink.bytes())?))
 }
 
+/// A session whose sink has room for so many bytes.
+fn little_room(alloc: Global, input: &[u8], room: usize) -> Result<(Status, Vec<u8>), Fail> {
+    let mut source = MemSource::new(Vec::from_slice(alloc, input)?, 20, Vec::new(alloc));
+    let mut sink = MemSink::new(alloc, room, Vec::new(alloc))?;
+    let moments = [Moment {
+        now: NOW,
+        random: [0; 10],
+    }];
+    let words = words(alloc, &[".", "stdio"])?;
+    let status = run(alloc, &words, &mut source, &mut sink, &moments);
+    Ok((status, Vec::from_slice(alloc, sink.bytes())?))
+}
+
 /// The session is the same however its bytes are cut.
 fn check(
     rt: &impl Abort,
@@ -167,6 +180,23 @@ fn failing_devices(rt: HostRuntime) -> Result<(), Fail> {
     let input = joined(alloc, &[PUT_ABC, GET_ABC, GET_NONE])?;
     let (usual, all) = session(alloc, &input, 20, &[], &[], NOW)?;
     assert_eq!(rt; usual, Status::Ok);
+    for room in 0..200usize {
+        let (status, written) = little_room(alloc, &input, room)?;
+        assert_eq!(rt;
+            status,
+            if room < all.len() {
+                Status::WriteFault
+            } else {
+                Status::Ok
+            },
+            "room {room}"
+        );
+        assert_eq!(rt;
+            written.as_slice(),
+            &all[..room.min(all.len())],
+            "room {room}"
+        );
+    }
     for call in 0..40u64 {
         let (status, written) = session(alloc, &input, 20, &[call], &[], NOW)?;
         assert!(rt;
