@@ -18,3 +18,4 @@ pub mod History
 pub mod Passes
 pub mod Plain
 pub mod Laws
+pub mod BrokenKeeper

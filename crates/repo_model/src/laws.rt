@@ -6,6 +6,8 @@ ghost use Rattle.repo_model.specs.Config.{Config};
 ghost use Rattle.repo_model.specs.State.{State};
 ghost use Rattle.repo_model.specs.Step.{outcome};
 ghost use Rattle.repo_model.specs.History.{Legal, Follows};
+ghost use Rattle.repo_model.specs.Passes.{PassView, own_entries};
+ghost use Rattle.repo_model.specs.BrokenKeeper.{BreaksOnce};
 ghost use Rattle.repo_model.specs.Laws.{IsLawful, IsRising, stamps_of, NoneFull};
 
 /// Stamps rise, a refusal changes nothing but the notes, no step breaks the repository, and none
@@ -24,4 +26,16 @@ pub fn goes_on()
 pub fn stamps_rise()
     ensures rise { (c : Config) (s t : State) (es : List Entry) → Legal c s es t → IsRising s.last (stamps_of es) }
     ensures none_full { (c : Config) (s t : State) (es : List Entry) → Legal c s es t → NoneFull es }
+{}
+
+/// A caller that sees one more entry has one more entry of its own where it made that call, and
+/// else the same.
+pub fn own_entries_grow()
+    ensures { (pass : PassView) (e : Entry) → own_entries (record pass { seen = pass.seen ++ e ∷ [] }) ≡ own_entries pass ++ own_entries (record pass { seen = e ∷ [] }) }
+{}
+
+/// A fault of the keeper at a commit breaks the repository in a legal history: the look after it is
+/// answered by that fault and its entry.
+pub fn keeper_fault_breaks()
+    ensures { BreaksOnce }
 {}

@@ -1,5 +1,7 @@
 //! The step as a program over ordered maps: one module a part of the repository.
 
+#[cfg(test)]
+mod asks;
 mod begins;
 mod blob_map;
 mod cleans;

@@ -1,20 +1,20 @@
 //! Worked rows: what calls are answered, one after another, over an empty repository.
-use crate::call::{Begin, Call, Kind, Look, RemoteSaid};
+use crate::call::{Call, Kind, Look};
 use crate::entry::Entry;
 use crate::journal::Journal;
+use crate::plain::asks::{
+    Ask, At, In, LAST, Rule, T, Want, blob, call_of, is_wanted, key, policy_of,
+};
 use crate::plain::{
     NoPattern, PlainConfig, PlainGroup, PlainPolicy, PlainRepo, PlainState, step_with,
 };
 use crate::reply::{Cause, Fault, Refusal, Reply};
 use crate::spot::Spot;
 use nx_base::{
-    Asset, AssetPath, BlobId, BlobRef, ContentType, Fill, Key, Member, Moment, NameErr, NoMemory,
-    Policy, PolicyName, RepoKind, RepoName, StoreName,
+    BlobId, Fill, Member, NameErr, NoMemory, Policy, PolicyName, RepoKind, RepoName, StoreName,
 };
 use std::alloc::Global;
 use std::test::Fail;
-
-const T: u64 = 1_700_000_000_000;
 
 const BEFORE: u64 = T - 1;
 
@@ -22,224 +22,10 @@ const DAY: u64 = 86_400_000;
 
 const WEEK: u64 = 7 * DAY;
 
-const LAST: u64 = 281_474_976_710_655;
-
 /// The id of the stamp T and ten zeros.
 const ID: [u8; 16] = [
     0x01, 0x8b, 0xcf, 0xe5, 0x68, 0, 0x70, 0, 0x80, 0, 0, 0, 0, 0, 0, 0,
 ];
-
-/// A path of the repository `files`.
-#[derive(Clone, Copy)]
-enum At {
-    Text,
-    Empty,
-    Late,
-    Other,
-    X,
-    Y,
-    Z,
-}
-
-fn path_of(at: At) -> &'static [u8] {
-    match at {
-        At::Text => b"a/b.txt",
-        At::Empty => b"e",
-        At::Late => b"late",
-        At::Other => b"other",
-        At::X => b"x.txt",
-        At::Y => b"y.txt",
-        At::Z => b"z.txt",
-    }
-}
-
-/// A cleanup policy.
-#[derive(Clone, Copy)]
-enum Rule {
-    Used,
-    Old,
-}
-
-fn policy_of(rule: Rule) -> &'static [u8] {
-    match rule {
-        Rule::Used => b"used",
-        Rule::Old => b"old",
-    }
-}
-
-/// A call on a path of the repository `files`.
-#[derive(Clone, Copy)]
-enum Ask {
-    Begin(Kind),
-    Put(At, u64, u64),
-    Get(Look, At, u64),
-    Found(At, u64),
-    Missing(At, u64),
-    Failed(At, u64),
-    Delete(At, u64),
-    Clean(Rule, u64),
-    /// Of the blob with that stamp.
-    Remove(u64, u64),
-    Reconcile,
-    /// A GET of another repository.
-    Unknown,
-}
-
-/// A store.
-#[derive(Clone, Copy)]
-enum In {
-    Default,
-    First,
-    Third,
-}
-
-fn store_of(store: In) -> &'static [u8] {
-    match store {
-        In::Default => b"default",
-        In::First => b"m1",
-        In::Third => b"m3",
-    }
-}
-
-#[derive(Clone, Copy)]
-enum Want {
-    Nothing,
-    Begun(In),
-    /// The stamp, the size, the times of verification and of the last download.
-    Content(u64, u64, u64, Option<u64>),
-    Gone,
-    Removed,
-    Reconciled(u64),
-    Refused(Refusal),
-    Taken([u8; 16]),
-}
-
-fn key(alloc: Global, repo: &[u8], path: &[u8]) -> Result<Key, NameErr> {
-    let repo = RepoName::parse(alloc, repo)?;
-    let path = AssetPath::parse(alloc, path)?;
-    Ok(Key { repo, path })
-}
-
-fn moment(now: u64) -> Moment {
-    Moment {
-        now,
-        random: [0; 10],
-    }
-}
-
-fn look_at(
-    alloc: Global,
-    path: &[u8],
-    look: Look,
-    now: u64,
-    remote: RemoteSaid,
-) -> Result<Call, NameErr> {
-    Ok(Call::Get {
-        key: key(alloc, b"files", path)?,
-        look,
-        moment: moment(now),
-        remote,
-    })
-}
-
-fn blob(alloc: Global, stamp: u64) -> Result<BlobRef, NameErr> {
-    Ok(BlobRef {
-        store: StoreName::parse(alloc, b"default")?,
-        id: BlobId::made(stamp.min(LAST), &[0; 10]),
-        stamp,
-    })
-}
-
-fn upload(alloc: Global, path: &[u8], size: u64, now: u64) -> Result<Call, NameErr> {
-    Ok(Call::Put {
-        key: key(alloc, b"files", path)?,
-        content_type: ContentType::parse(alloc, b"text/plain")?,
-        size,
-        sha1: [7; 20],
-        moment: moment(now),
-    })
-}
-
-fn fetched(alloc: Global) -> Result<RemoteSaid, NameErr> {
-    Ok(RemoteSaid::Found {
-        content_type: ContentType::parse(alloc, b"text/plain")?,
-        size: 3,
-        sha1: [7; 20],
-    })
-}
-
-fn call_of(alloc: Global, ask: Ask) -> Result<Call, NameErr> {
-    match ask {
-        Ask::Begin(kind) => Ok(Call::Begin(Begin {
-            key: key(alloc, b"files", b"a/b.txt")?,
-            content_type: ContentType::parse(alloc, b"text/plain")?,
-            kind,
-        })),
-        Ask::Put(at, size, now) => upload(alloc, path_of(at), size, now),
-        Ask::Get(look, at, now) => look_at(alloc, path_of(at), look, now, RemoteSaid::NotAsked),
-        Ask::Found(at, now) => look_at(alloc, path_of(at), Look::Get, now, fetched(alloc)?),
-        Ask::Missing(at, now) => look_at(alloc, path_of(at), Look::Get, now, RemoteSaid::Missing),
-        Ask::Failed(at, now) => look_at(alloc, path_of(at), Look::Get, now, RemoteSaid::Failed),
-        Ask::Delete(at, now) => {
-            let key = key(alloc, b"files", path_of(at))?;
-            Ok(Call::Delete { key, now })
-        }
-        Ask::Clean(rule, now) => Ok(Call::Clean {
-            key: key(alloc, b"files", b"a/b.txt")?,
-            policy: PolicyName::parse(alloc, policy_of(rule))?,
-            now,
-        }),
-        Ask::Remove(stamp, now) => {
-            let blob = blob(alloc, stamp)?;
-            Ok(Call::Remove { blob, now })
-        }
-        Ask::Reconcile => Ok(Call::Reconcile),
-        Ask::Unknown => Ok(Call::Get {
-            key: key(alloc, b"none", b"a")?,
-            look: Look::Head,
-            moment: moment(T),
-            remote: RemoteSaid::NotAsked,
-        }),
-    }
-}
-
-fn shows(asset: &Asset, want: &Want) -> bool {
-    match want {
-        Want::Content(stamp, size, verified, downloaded) => {
-            asset.blob.stamp == *stamp
-                && asset.size == *size
-                && asset.verified == *verified
-                && asset.downloaded == *downloaded
-        }
-        _ => false,
-    }
-}
-
-fn is_wanted(reply: &Option<Reply>, want: &Want) -> bool {
-    match reply {
-        None => matches!(want, Want::Nothing),
-        Some(Reply::Begun { store }) => match want {
-            Want::Begun(name) => store.as_bytes() == store_of(*name),
-            _ => false,
-        },
-        Some(Reply::Stored { asset }) => shows(asset, want),
-        Some(Reply::Found { asset }) => shows(asset, want),
-        Some(Reply::Gone) => matches!(want, Want::Gone),
-        Some(Reply::Removed) => matches!(want, Want::Removed),
-        Some(Reply::Reconciled { kept }) => match want {
-            Want::Reconciled(n) => *kept == *n,
-            _ => false,
-        },
-        Some(Reply::Refused(Refusal::IdTaken { id })) => match want {
-            Want::Taken(bytes) => id.as_bytes() == bytes.as_slice(),
-            _ => false,
-        },
-        Some(Reply::Refused(why)) => match want {
-            Want::Refused(other) => *why == *other,
-            _ => false,
-        },
-    }
-}
 
 fn group(alloc: Global, members: &[(&[u8], bool)]) -> Result<PlainGroup, NameErr> {
     let mut list = Vec::new(alloc);
