@@ -25,8 +25,8 @@ pub returns-in_ok-try_clone-in-Some-clause-value : goal.returns-in_ok-try_clone-
 returns-in_ok-try_clone-in-Some-clause-value c =
     let es = c.args.rows.now.entries in
     let found : c.range.result ≡ entries_after (Some c.in-Some.key.now) (entries (from_entries {R = key_cmp} es)) =
-      c.range.ensures.between tt ∙ (filter_alike _ _ (λ e. and_true _) es ∙ (ap (λ k. filter (λ e. is_lt (key_cmp k e.0)) es) c.in_ok-try_clone-in-Some.ensures
-      ∙ ap (filter (λ e. is_lt (key_cmp c.in-Some.key.now e.0))) (sym (entries_are key_cmp_total exact_keys es c.range.ensures.ordered)))) in
+    c.range.ensures.between tt ∙ (filter_alike _ _ (λ e. and_true _) es ∙ (ap (λ k. filter (λ e. is_lt (key_cmp k e.0)) es) c.in_ok-try_clone-in-Some.ensures
+    ∙ ap (filter (λ e. is_lt (key_cmp c.in-Some.key.now e.0))) (sym (entries_are key_cmp_total exact_keys es c.range.ensures.ordered)))) in
     rw c.in-Some.is (rw found at c.copy_rows.ensures)
 
 pub returns-in_ok-try_clone-in-Some-clause-shape : goal.returns-in_ok-try_clone-in-Some-clause-shape
@@ -45,7 +45,7 @@ pub returns-in-None-clause-value : goal.returns-in-None-clause-value
 returns-in-None-clause-value c =
     let es = c.args.rows.now.entries in
     let found : c.range-in-None.result ≡ entries (from_entries {R = key_cmp} es) =
-      c.range-in-None.ensures.between tt ∙ (filter_all _ (λ e. and_true _) es ∙ sym (entries_are key_cmp_total exact_keys es c.range-in-None.ensures.ordered)) in
+    c.range-in-None.ensures.between tt ∙ (filter_all _ (λ e. and_true _) es ∙ sym (entries_are key_cmp_total exact_keys es c.range-in-None.ensures.ordered)) in
     rw c.in-None.is (rw found at c.copy_rows-in-None.ensures)
 
 pub returns-in-None-clause-shape : goal.returns-in-None-clause-shape

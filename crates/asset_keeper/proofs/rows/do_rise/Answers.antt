@@ -13,5 +13,5 @@ from_row rows i row lt is =
 pub loop-row-preserved : goal.loop-row-preserved
 loop-row-preserved c = λ rest.
     c.loop-row.invariant (subst (RiseAfter (option_copied c.loop-row.last))
-      (sym (from_row c.args.rows.now c.loop-row.row-index c.row-item.result c.loop-row-test.true c.row-item.is))
-      (c.is_after.ensures c.if-not-is_after.false, rest))
+    (sym (from_row c.args.rows.now c.loop-row.row-index c.row-item.result c.loop-row-test.true c.row-item.is))
+    (c.is_after.ensures c.if-not-is_after.false, rest))
