@@ -53,8 +53,10 @@ fn words_of(rt: &HostRuntime) -> io::Result<Vec<String>> {
 }
 
 fn main(rt: HostRuntime) -> io::Result<ExitCode> {
-    let Ok(words) = words_of(&rt) else {
-        return end(&rt, Status::Usage);
+    let words = match words_of(&rt) {
+        Ok(words) => words,
+        Err(e) if e.kind() == io::ErrorKind::OutOfMemory => return end(&rt, Status::NoMemory),
+        Err(_) => return end(&rt, Status::Usage),
     };
     let moments = [moment(&rt)?];
     let mut input = RealSource::new(rt.stdin());
