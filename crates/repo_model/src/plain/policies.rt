@@ -14,9 +14,11 @@ pub trait PathPattern {
         ensures { IfOk result (λ hit. hit ≡ is_hit (text self.now) path.now) };
 }
 
-/// For policies that name no pattern: there is no value of this type.
+/// For policies that name no pattern. Nobody can make one: if there were one, whether it matches could not be told.
 #[derive(Clone, Copy, Debug, PartialEq, Eq)]
-pub enum NoPattern {}
+pub struct NoPattern {
+    nothing: (),
+}
 
 impl PathPattern for NoPattern {
     ghost use Rattle.std.specs.Prelude.{[]};
@@ -24,7 +26,7 @@ impl PathPattern for NoPattern {
     ghost text = { λ _. [] };
 
     fn is_hit(&self, _alloc: Global, _path: &AssetPath) -> Result<bool, NoMemory> {
-        match *self {}
+        Err(NoMemory)
     }
 }
 
