@@ -14,7 +14,7 @@ use Rattle.repo_model.specs.declared.reply.Fault.TheVariants as fault
 use Rattle.repo_model.specs.declared.reply.Refusal.TheVariants as refusal
 use Rattle.repo_model.specs.declared.reply.Reply.TheVariants as reply
 use Rattle.repo_model.specs.Config.{Config}
-use Rattle.repo_model.specs.State.{State, empty_state}
+use Rattle.repo_model.specs.State.{empty_state}
 use Rattle.repo_model.specs.Writing.{counted}
 use Rattle.repo_model.specs.History.{Legal}
 

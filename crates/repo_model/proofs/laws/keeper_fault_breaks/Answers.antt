@@ -1,4 +1,4 @@
-use Rattle.std.proofs.Common.{[], ◌∷◌, refl, inl, inr, codes, Some}
+use Rattle.std.proofs.Common.{[], refl, inl, inr, codes, Some}
 use Rattle.repo_model.specs.declared.reply.Fault.TheVariants as fault
 use Rattle.repo_model.specs.State.{State, empty_state}
 use Rattle.repo_model.specs.Writing.{counted}

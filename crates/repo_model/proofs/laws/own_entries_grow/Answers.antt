@@ -1,4 +1,4 @@
-use Rattle.std.proofs.Common.{◌≡◌, ◌==◌, ℕ, Bool, true, false, cond, List, [], ◌∷◌, ◌++◌, filter, refl, ap}
+use Rattle.std.proofs.Common.{◌≡◌, ◌==◌, Bool, true, false, cond, List, [], ◌∷◌, ◌++◌, filter, refl, ap}
 use Rattle.repo_model.specs.declared.entry.Entry.{Entry}
 use Rattle.repo_model.proofs.laws.own_entries_grow.Goals as goal
 
