@@ -1,2 +1,6 @@
 pub mod Chain
+pub mod Effects
 pub mod Names
+pub mod Recorded
+pub mod ShelfLemmas
+pub mod Small

@@ -1,2 +1,5 @@
 pub mod Disk
 pub mod Moments
+pub mod Past
+pub mod PastLaws
+pub mod Seen

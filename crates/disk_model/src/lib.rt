@@ -4,12 +4,14 @@
 
 mod disk;
 mod disk_err;
+mod memory;
 mod reader;
 mod replace;
 mod writer;
 
 pub use disk::{Disk, SMALL_LIMIT};
 pub use disk_err::DiskErr;
+pub use memory::{Change, History, Shelf};
 pub use reader::Reader;
 pub use replace::{put_sealed, remove_settled, replace_small, write_whole};
 pub use writer::Writer;

@@ -1,0 +1,72 @@
+ghost use Rattle.std.specs.Prelude.{◌≡◌, ◌++◌, ◌∷◌, [], ℕ, List, true, OnOk, OnErr, IfOk};
+ghost use Rattle.disk_model.specs.Past.{same_value, now_of, lookup, tree_of};
+ghost use Rattle.disk_model.specs.Seen.{shown, seen};
+
+use crate::memory::change::Change;
+use crate::memory::shelf::Shelf;
+use nx_base::{Name, NoMemory};
+use std::alloc::Global;
+
+/// The first files of a disk in memory, and each change since. The present value of each name is kept beside them, so
+/// that a look-up reads no log.
+#[derive(Drop)]
+pub struct History {
+    alloc: Global,
+    files: Vec<(Name, Vec<u8>)>,
+    log: Vec<Change>,
+    shelf: Shelf,
+    ghost tied: { (n : List ℕ) → same_value (shown shelf n) (now_of n log.items (lookup n files.items)) ≡ true },
+}
+
+// The values of the files. Of several with one name the first counts.
+fn shelved(alloc: Global, files: &[(Name, Vec<u8>)]) -> Result<Shelf, NoMemory>
+    ensures { IfOk result (λ shelf. (n : List ℕ) → shown shelf n ≡ lookup n files.now) }
+{
+    let mut shelf = Shelf::new(alloc);
+    let mut left = files.len();
+    while left > 0 {
+        left -= 1;
+        let file = &files[left];
+        let Ok(bytes) = Vec::from_slice(alloc, &file.1) else {
+            return Err(NoMemory);
+        };
+        shelf.put(alloc, &file.0, bytes)?;
+    }
+    Ok(shelf)
+}
+
+impl History {
+    pub fn new(alloc: Global, files: Vec<(Name, Vec<u8>)>) -> Result<History, NoMemory>
+        ensures files { IfOk result (λ history. history.files.items ≡ files.items) }
+        ensures log { IfOk result (λ history. history.log.items ≡ []) }
+    {
+        let shelf = shelved(alloc, &files)?;
+        Ok(History {
+            alloc,
+            files,
+            log: Vec::new(alloc),
+            shelf,
+        })
+    }
+
+    /// The present value of the name.
+    pub fn find(&self, name: &Name) -> Option<&[u8]>
+        ensures { seen result ≡ tree_of self.now.files.items self.now.log.items name.now }
+    {
+        self.shelf.get(name)
+    }
+
+    /// One more change.
+    pub fn add(&mut self, change: Change) -> Result<(), NoMemory>
+        ensures files { self.new.files.items ≡ self.old.files.items }
+        ensures added { OnOk result (self.new.log.items ≡ self.old.log.items ++ change ∷ []) }
+        ensures refused { OnErr result (self.new.log.items ≡ self.old.log.items) }
+    {
+        if self.log.reserve(1).is_err() {
+            return Err(NoMemory);
+        }
+        self.shelf.follow(self.alloc, &change)?;
+        self.log.push_reserved(change);
+        Ok(())
+    }
+}
