@@ -38,6 +38,7 @@ module _ {D : Type 0} (clock : D → ℕ) (lists : D → ℕ → Lists) where
     ];
     kept = λ t le. second.kept t (omega (arith, le, first.later)) ∙ first.kept t le;
   }
+
   pub weaker : (P Q : Lists → Type 0) (old new : D) → ((l : Lists) → P l → Q l) → During clock lists old new P → During clock lists old new Q
   weaker P Q old new f run = record { later = run.later; each = λ t ge le. f (lists new t) (run.each t ge le); kept = run.kept }
 
@@ -65,6 +66,7 @@ module _ (name : List ℕ) (value : Option (List ℕ)) (first mid new : Lists) (
       joined_or_not (Ok x) is = inl is
       joined_or_not (Err Failed) is = inl is
       joined_or_not (Err NoMemory) is = inr is
+
       joined : (v : Option (List ℕ)) → (new name ≡ mid name ++ value ∷ []) ⊎ (new name ≡ mid name) → Among v (new name) → Among v (first name) ⊎ (v ≡ value)
       joined v (inl is) here = ⊎_elim (λ old. so_far.named v old) (λ e. inr e) (among_push v value (mid name) (subst (λ (l : List (Option (List ℕ))). Among v l) is here))
       joined v (inr is) here = so_far.named v (subst (λ (l : List (Option (List ℕ))). Among v l) is here)
@@ -79,9 +81,11 @@ module _ (name : List ℕ) (value : Option (List ℕ)) (first mid new : Lists) (
       settled_or_not (Ok x) is = inr is
       settled_or_not (Err Failed) is = is
       settled_or_not (Err NoMemory) is = inl is
+
       alone : (v : Option (List ℕ)) → Among v (now ∷ []) → v ≡ now
       alone v (inl is) = is
       alone v (inr none) = absurd none
+
       kept : (v : Option (List ℕ)) → (new name ≡ mid name) ⊎ (new name ≡ now ∷ []) → Among v (new name) → Among v (first name) ⊎ (v ≡ value)
       kept v (inl is) here = so_far.named v (subst (λ (l : List (Option (List ℕ))). Among v l) is here)
       kept v (inr is) here = so_far.named v (subst (λ (w : Option (List ℕ)). Among w (mid name)) (sym (alone v (subst (λ (l : List (Option (List ℕ))). Among v l) is here))) there)
@@ -104,6 +108,6 @@ same_then_put clock lists name value old mid new out first second =
     let start = lists old (clock old) in
     let P : Lists → Type 0 = MayPut name value start in
     and_then clock lists P old mid new
-      (weaker clock lists (Same start) P old mid (λ l same. put_after_same name value start l l out same (put_start name value l)) first)
-      (weaker clock lists (MayPut name value (lists mid (clock mid))) P mid new
-        (λ l put. put_after_same name value start (lists mid (clock mid)) l out (first.each (clock mid) first.later (omega arith)) put) second)
+    (weaker clock lists (Same start) P old mid (λ l same. put_after_same name value start l l out same (put_start name value l)) first)
+    (weaker clock lists (MayPut name value (lists mid (clock mid))) P mid new
+    (λ l put. put_after_same name value start (lists mid (clock mid)) l out (first.each (clock mid) first.later (omega arith)) put) second)

@@ -22,10 +22,13 @@ puts_of result files files' t name value log log' same is =
   where
     put_done : (new : List Change) → new ≡ log ++ noted t name value true false ∷ [] → tree_of files new name ≡ value_of value
     put_done new e = ap (λ (l : List Change). tree_of files l name) e ∙ tree_at files log (noted t name value true false) name refl
+
     put_not : (new : List Change) → new ≡ log ++ noted t name value false false ∷ [] → tree_of files new name ≡ tree_of files log name
     put_not new e = ap (λ (l : List Change). tree_of files l name) e ∙ tree_at files log (noted t name value false false) name refl
+
     rest : (done : Bool) (new : List Change) → new ≡ log ++ noted t name value done false ∷ [] → Rest name (tree_of files log) (tree_of files new)
     rest done new e = λ n out other. ap (λ (l : List Change). tree_of files l n) e ∙ tree_rest files log (noted t name value done false) n other
+
     puts : {S : Type 0} (r : Result S DiskErr) → Noted r t name value false log log' → Puts r name (value_of value) (tree_of files log) (tree_of files log')
     puts (Ok x) e = record { named = put_done log' e; rest = rest true log' e }
     puts (Err Failed) e = record { named = inl (put_not log' e); rest = rest false log' e }
@@ -38,10 +41,13 @@ same_tree_of result files files' t name log log' same is = ap {B = Tree} (λ (f 
     kept : (done : Bool) (n : List ℕ) → n ≡ name → tree_of files (log ++ noted t name None done true ∷ []) n ≡ tree_of files log n
     kept true n e = tree_at files log (noted t name None true true) n e
     kept false n e = tree_at files log (noted t name None false true) n e
+
     each : (done : Bool) (n : List ℕ) → tree_of files (log ++ noted t name None done true ∷ []) n ≡ tree_of files log n
     each done n = elim (same_or_not n name) [ inl e ↦ kept done n e | inr other ↦ tree_rest files log (noted t name None done true) n other ]
+
     pushed : (done : Bool) → log' ≡ log ++ noted t name None done true ∷ [] → tree_of files log' ≡ tree_of files log
     pushed done e = ap {B = Tree} (λ (l : List Change). tree_of files l) e ∙ (λ i n. each done n i)
+
     tree : {S : Type 0} (r : Result S DiskErr) → Noted r t name None true log log' → tree_of files log' ≡ tree_of files log
     tree (Ok x) e = pushed true e
     tree (Err Failed) e = pushed false e
@@ -76,10 +82,12 @@ joins_of result files files' t u name value log log' same is all later =
     named done e =
         ap (λ (l : List Change). lists_of files l u name) e
         ∙ joined files log (noted t name value done false) t u (from_test t log all) (from_test u _ (subst (λ (l : List Change). all_before u l ≡ true) e later)) name refl refl
+
     rest : (done : Bool) → log' ≡ log ++ noted t name value done false ∷ [] → Rest name (lists_of files log t) (lists_of files log' u)
     rest done e = λ n out other.
         ap (λ (l : List Change). lists_of files l u n) e
         ∙ lists_rest files log (noted t name value done false) t u (from_test t log all) (from_test u _ (subst (λ (l : List Change). all_before u l ≡ true) e later)) n other
+
     joins : {S : Type 0} (r : Result S DiskErr) → Noted r t name value false log log' → Joins r name (value_of value) (lists_of files log t) (lists_of files log' u)
     joins (Ok x) e = record { named = named true e; rest = rest true e }
     joins (Err Failed) e = record { named = named false e; rest = rest false e }
@@ -94,7 +102,8 @@ ticks_of result files files' t u name value settles log log' same is room moves 
     pushed : (done : Bool) → log' ≡ log ++ noted t name value done settles ∷ [] → t + 1 < 2 ^ 64 → Ticks t u (lists_of files log) (lists_of files log')
     pushed done e fits =
         subst (λ (k : ℕ). Ticks t k (lists_of files log) (lists_of files log')) (sym (moves.moves fits))
-          (subst (λ (l : List Change). Ticks t (t + 1) (lists_of files log) (lists_of files l)) (sym e) (ticks_push files log (noted t name value done settles) t refl fits))
+        (subst (λ (l : List Change). Ticks t (t + 1) (lists_of files log) (lists_of files l)) (sym e) (ticks_push files log (noted t name value done settles) t refl fits))
+
     ticks : {S : Type 0} (r : Result S DiskErr) → Noted r t name value settles log log' → After r (t + 1 < 2 ^ 64) (t + 1 < 2 ^ 64) (Unit {0}) → Ticks t u (lists_of files log) (lists_of files log')
     ticks (Ok x) e fits = pushed true e fits
     ticks (Err Failed) e fits = pushed false e fits
@@ -108,12 +117,15 @@ settles_of result files files' t u name log log' same is all later =
     at done e =
         ap (λ (l : List Change). lists_of files l u name) e
         ∙ lists_at files log (noted t name None done true) t u (from_test t log all) (from_test u _ (subst (λ (l : List Change). all_before u l ≡ true) e later)) name refl
+
     old : (run name log (first_of name files)).1 ≡ lists_of files log t name
     old = ap (λ (l : List Change). (run name l (first_of name files)).1) (sym (until-all t log (from_test t log all)))
+
     rest : (done : Bool) → log' ≡ log ++ noted t name None done true ∷ [] → Rest name (lists_of files log t) (lists_of files log' u)
     rest done e = λ n out other.
         ap (λ (l : List Change). lists_of files l u n) e
         ∙ lists_rest files log (noted t name None done true) t u (from_test t log all) (from_test u _ (subst (λ (l : List Change). all_before u l ≡ true) e later)) n other
+
     settles : {S : Type 0} (r : Result S DiskErr) → Noted r t name None true log log' → Settles r name (tree_of files log name) (lists_of files log t) (lists_of files log' u)
     settles (Ok x) e = record { named = at true e; rest = rest true e }
     settles (Err Failed) e = record { named = inl (at false e ∙ old); rest = rest false e }

@@ -6,6 +6,8 @@ use Rattle.std.proofs.lemmas.Slice.Eq.{bytes_eq-Decides}
 use Rattle.std.proofs.lemmas.Bool.{cases_Bool}
 use Rattle.std.proofs.lemmas.Bool.Decides.{nat_tests}
 use Rattle.disk_model.specs.declared.memory.change.Change.{Change}
+use Rattle.std.specs.Prelude.{OnOk, OnErr}
+use Rattle.nx_base.specs.declared.name_err.NoMemory.{NoMemory as OutOfMemory}
 use Rattle.disk_model.specs.declared.disk_err.DiskErr.{DiskErr}
 use Rattle.disk_model.specs.declared.disk_err.DiskErr.TheVariants.{Failed, NoMemory}
 use Rattle.disk_model.specs.Disk.{Tree, Lists, Outside, Among, After, Same, Rest, Puts, Joins, Settles}
@@ -86,9 +88,11 @@ test-more t u log le all = to_test u log (before-more t u log le (from_test t lo
 pub test-push : (t u : ℕ) (log : List Change) (c : Change) → t ≤ u → c.at < u → all_before t log ≡ true → all_before u (log ++ c ∷ []) ≡ true
 test-push t u log c le lt all = to_test u (log ++ c ∷ []) (before-push u log c lt (before-more t u log le (from_test t log all)))
 
-pub test-pushed : (t u : ℕ) (log new : List Change) (c : Change) (b : Bool) → new ≡ cond b (log ++ c ∷ []) log → t ≤ u → c.at < u → all_before t log ≡ true → all_before u new ≡ true
-test-pushed t u log new c true is le lt all = subst (λ (l : List Change). all_before u l ≡ true) (sym is) (test-push t u log c le lt all)
-test-pushed t u log new c false is le lt all = subst (λ (l : List Change). all_before u l ≡ true) (sym is) (test-more t u log le all)
+-- the change was added, or memory was refused
+pub test-added : (t u : ℕ) (log new : List Change) (c : Change) (r : Result (Unit {0}) OutOfMemory) → OnOk r (new ≡ log ++ c ∷ []) → OnErr r (new ≡ log)
+    → t ≤ u → c.at < u → all_before t log ≡ true → all_before u new ≡ true
+test-added t u log new c (Ok x) added refused le lt all = subst (λ (l : List Change). all_before u l ≡ true) (sym added) (test-push t u log c le lt all)
+test-added t u log new c (Err e) added refused le lt all = subst (λ (l : List Change). all_before u l ≡ true) (sym refused) (test-more t u log le all)
 
 now-changed : (same settles done : Bool) (v : Option (List ℕ)) (s : At) → (cond same (changed settles done v s) s).0 ≡ cond (not settles && (done && same)) v s.0
 now-changed true true true v s = refl

@@ -18,9 +18,9 @@ bytes_eq-sym : (a b : List ℕ) → bytes_eq a b ≡ bytes_eq b a
 bytes_eq-sym a b = elim (cases_Bool (bytes_eq a b)) [
   | inl same ↦ same ∙ sym ((bytes_eq-Decides b a).1 (sym ((bytes_eq-Decides a b).0 same)))
   | inr other ↦ elim (cases_Bool (bytes_eq b a)) [
-      | inl same ↦ absurd (true≢false (sym ((bytes_eq-Decides a b).1 (sym ((bytes_eq-Decides b a).0 same))) ∙ other))
-      | inr too ↦ other ∙ sym too
-    ]
+    | inl same ↦ absurd (true≢false (sym ((bytes_eq-Decides a b).1 (sym ((bytes_eq-Decides b a).0 same))) ∙ other))
+    | inr too ↦ other ∙ sym too
+  ]
 ]
 
 abbrev items_of : Option (Vec ℕ Global) → Option (List ℕ)
@@ -66,4 +66,4 @@ pub tied_more : (old new first : Option (List ℕ)) (n : List ℕ) (log log' : L
 tied_more old new first n log log' c pushed stepped tied =
     same_value-from new (now_of n log' first)
     (stepped ∙ ap (now_step n c) (same_value-eq old (now_of n log first) tied) ∙ sym (now_of-push n log c first)
-     ∙ ap (λ (l : List Change). now_of n l first) (sym pushed))
+    ∙ ap (λ (l : List Change). now_of n l first) (sym pushed))

@@ -1,4 +1,5 @@
 pub mod Disk
+pub mod Listed
 pub mod Moments
 pub mod Past
 pub mod PastLaws

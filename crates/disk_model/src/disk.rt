@@ -15,7 +15,9 @@ pub const SMALL_LIMIT: usize = 65537;
 /// calls moves by one, and a count of faults.
 pub trait Disk {
     type Sealed: Drop;
+
     type Writer: Writer<Sealed = Self::Sealed>;
+
     type Reader: Reader;
 
     /// Whether contracts know what the files hold.

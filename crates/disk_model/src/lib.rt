@@ -11,7 +11,7 @@ mod writer;
 
 pub use disk::{Disk, SMALL_LIMIT};
 pub use disk_err::DiskErr;
-pub use memory::{Change, History, Shelf};
+pub use memory::{MemDisk, MemReader, MemSealed, MemWriter};
 pub use reader::Reader;
 pub use replace::{put_sealed, remove_settled, replace_small, write_whole};
 pub use writer::Writer;

@@ -1,9 +1,13 @@
 //! The disk in memory: a log of the calls that changed it, and the present value of each name beside the log.
 
 mod change;
+mod count;
+mod disk;
 mod history;
+mod reader;
 mod shelf;
+mod writer;
 
-pub use change::Change;
-pub use history::History;
-pub use shelf::Shelf;
+pub use disk::MemDisk;
+pub use reader::MemReader;
+pub use writer::{MemSealed, MemWriter};

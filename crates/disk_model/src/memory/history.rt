@@ -1,6 +1,7 @@
 ghost use Rattle.std.specs.Prelude.{◌≡◌, ◌++◌, ◌∷◌, [], ℕ, List, true, OnOk, OnErr, IfOk};
 ghost use Rattle.disk_model.specs.Past.{same_value, now_of, lookup, tree_of};
 ghost use Rattle.disk_model.specs.Seen.{shown, seen};
+ghost use Rattle.disk_model.specs.Disk.{IsListing};
 
 use crate::memory::change::Change;
 use crate::memory::shelf::Shelf;
@@ -54,6 +55,13 @@ impl History {
         ensures { seen result ≡ tree_of self.now.files.items self.now.log.items name.now }
     {
         self.shelf.get(name)
+    }
+
+    /// The names at or below the prefix that have a value, in byte order.
+    pub fn list(&self, prefix: &Name) -> Result<Vec<Name>, NoMemory>
+        ensures { IfOk result (λ names. IsListing prefix.now (tree_of self.now.files.items self.now.log.items) names.items) }
+    {
+        self.shelf.list(self.alloc, prefix)
     }
 
     /// One more change.

@@ -1,6 +1,7 @@
-ghost use Rattle.std.specs.Prelude.{◌≡◌, ℕ, List, Some, None, if◌then◌else◌, IfOk, OnOk, OnErr};
+ghost use Rattle.std.specs.Prelude.{◌≡◌, ◌++◌, ◌∷◌, [], ℕ, List, Some, None, if◌then◌else◌, IfOk, OnOk, OnErr};
 ghost use Rattle.std.specs.Str.{bytes_eq};
 ghost use Rattle.disk_model.specs.Disk.{IsListing};
+ghost use Rattle.disk_model.specs.Listed.{is_at_or_below};
 
 use crate::memory::change::Change;
 use nx_base::{Name, NoMemory};
@@ -74,5 +75,56 @@ impl Shelf {
                 Err(_) => Err(NoMemory),
             },
         }
+    }
+
+    /// The names at or below the prefix, in byte order.
+    pub fn list(&self, alloc: Global, prefix: &Name) -> Result<Vec<Name>, NoMemory>
+        ensures { IfOk result (λ names. IsListing prefix.now (shown self.now) names.items) }
+    {
+        let mut names = Vec::new(alloc);
+        for (key, _) in self.values.iter() {
+            add_if_below(alloc, &mut names, prefix.as_bytes(), key.as_str())?;
+        }
+        Ok(names)
+    }
+}
+
+// Adds the key to the names, if it is at or below the prefix.
+fn add_if_below(
+    alloc: Global,
+    names: &mut Vec<Name>,
+    prefix: &[u8],
+    key: &str,
+) -> Result<(), NoMemory>
+    ensures { OnOk result (names.new.items ≡ names.old.items ++ (if is_at_or_below prefix.now key.now then key.now ∷ [] else [])) }
+{
+    if !is_at_or_below(prefix, key.as_bytes()) {
+        return Ok(());
+    }
+    let name = name_of(alloc, key)?;
+    let Ok(()) = names.push(name) else {
+        return Err(NoMemory);
+    };
+    Ok(())
+}
+
+// The name that a key is the text of.
+fn name_of(alloc: Global, key: &str) -> Result<Name, NoMemory>
+    ensures { IfOk result (λ name. name ≡ key.now) }
+{
+    match Name::parse(alloc, key) {
+        Ok(name) => Ok(name),
+        Err(_) => Err(NoMemory),
+    }
+}
+
+// Whether the name is the prefix itself, or below it.
+fn is_at_or_below(prefix: &[u8], name: &[u8]) -> bool
+    ensures { result ≡ is_at_or_below prefix.now name.now }
+{
+    match name.strip_prefix(prefix) {
+        Some([]) => true,
+        Some([next, ..]) => *next == b'/',
+        None => false,
     }
 }
