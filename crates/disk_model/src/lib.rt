@@ -7,6 +7,10 @@ mod disk_err;
 mod memory;
 mod reader;
 mod replace;
+#[cfg(test)]
+mod silent;
+#[cfg(test)]
+mod tests;
 mod writer;
 
 pub use disk::{Disk, SMALL_LIMIT};

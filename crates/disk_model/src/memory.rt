@@ -1,7 +1,7 @@
 //! The disk in memory: a log of the calls that changed it, and the present value of each name beside the log.
 
 mod change;
-mod count;
+pub mod count;
 mod disk;
 mod history;
 mod reader;

@@ -118,6 +118,27 @@ impl MemDisk {
         self.fail_reads = reads;
     }
 
+    /// The present value of the name. It is no call of the disk, so that the clock stays.
+    pub fn value(&self, name: &Name) -> Option<&[u8]>
+        ensures { seen result ≡ tree_of self.now.history.files.items self.now.history.log.items name.now }
+    {
+        self.history.find(name)
+    }
+
+    /// The clock: how many calls there were.
+    pub fn clock(&self) -> u64
+        ensures { result ≡ self.now.calls }
+    {
+        self.calls
+    }
+
+    /// How many calls failed, the disk's own and those of the parts that it took back.
+    pub fn faults(&self) -> u64
+        ensures { result ≡ self.now.faults }
+    {
+        self.faults
+    }
+
     // Whether the next call fails.
     fn fails(&self) -> bool
         ensures { result ≡ fails_at self.now.failing.items self.now.stop_after self.now.calls }
