@@ -101,6 +101,8 @@ impl Disk for SilentDisk {
 
     ghost lists = { λ d t n. [] };
 
+    ghost plan = { λ d. None };
+
     ghost last_look = { λ d. d.looked };
 
     ghost writers_tell = { λ told. told };

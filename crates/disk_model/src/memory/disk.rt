@@ -258,7 +258,8 @@ impl MemDisk {
 }
 
 impl Disk for MemDisk {
-    ghost use Rattle.disk_model.specs.Past.{tree_of, lists_of};
+    ghost use Rattle.std.specs.Prelude.{Some};
+    ghost use Rattle.disk_model.specs.Past.{tree_of, lists_of, fails_at};
     ghost use Rattle.disk_model.specs.PastLaws.{present_of};
 
     type Sealed = MemSealed;
@@ -276,6 +277,8 @@ impl Disk for MemDisk {
     ghost clock = { λ d. d.calls };
 
     ghost lists = { λ d. lists_of d.history.files.items d.history.log.items };
+
+    ghost plan = { λ d. Some (fails_at d.failing.items d.stop_after d.calls) };
 
     ghost last_look = { λ d. d.looked };
 
