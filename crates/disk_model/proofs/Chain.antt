@@ -1,9 +1,9 @@
 -- How a run of disk calls goes on, and what each call does to what joined so far.
-use Rattle.std.proofs.Common.{◌≡◌, ◌≢◌, ◌⊎◌, inl, inr, ⊎_elim, ℕ, ◌+◌, ◌≤◌, List, [], ◌∷◌, ◌++◌, Option, Result, Ok, Err, refl, sym, ◌∙◌, ap, subst, arith}
+use Rattle.std.proofs.Common.{◌≡◌, ◌⊎◌, inl, inr, ⊎_elim, ℕ, ◌≤◌, List, [], ◌∷◌, ◌++◌, Option, Result, Ok, Err, refl, sym, ◌∙◌, subst, arith}
 use Rattle.std.proofs.lemmas.Bool.{cases_eq, cases_lt}
 use Rattle.disk_model.specs.declared.disk_err.DiskErr.{DiskErr}
 use Rattle.disk_model.specs.declared.disk_err.DiskErr.TheVariants.{Failed, NoMemory}
-use Rattle.disk_model.specs.Disk.{Tree, Lists, Outside, Among, After, Same, Rest, Puts, Joins, Settles}
+use Rattle.disk_model.specs.Disk.{Lists, Outside, Among, After, Same, Joins, Settles}
 use Rattle.disk_model.specs.Moments.{Ticks, During, MayPut}
 
 module _ {D : Type 0} (clock : D → ℕ) (lists : D → ℕ → Lists) where

@@ -1,13 +1,13 @@
 -- What a noted change does to the tree and the lists, in the words of the trait.
-use Rattle.std.proofs.Common.{◌≡◌, ◌≢◌, ◌⊎◌, inl, inr, ⊎_elim, ℕ, ◌+◌, ◌<◌, ◌≤◌, ◌^◌, Bool, true, false, List, [], ◌∷◌, ◌++◌, Option, Some, None, Vec, Result, Ok, Err, refl, sym, ◌∙◌, ap, subst, arith}
+use Rattle.std.proofs.Common.{◌≡◌, inl, inr, ℕ, ◌+◌, ◌<◌, ◌^◌, Bool, true, false, List, [], ◌∷◌, ◌++◌, Option, None, Vec, Result, Ok, Err, refl, sym, ◌∙◌, ap, subst}
 use Rattle.std.specs.declared.alloc.Global.{Global}
 use Rattle.disk_model.specs.declared.memory.change.Change.{Change}
 use Rattle.disk_model.specs.declared.disk_err.DiskErr.{DiskErr}
 use Rattle.disk_model.specs.declared.disk_err.DiskErr.TheVariants.{Failed, NoMemory}
-use Rattle.disk_model.specs.Disk.{Tree, Lists, Outside, After, Same, Rest, Puts, Joins, Settles}
+use Rattle.disk_model.specs.Disk.{Tree, Lists, After, Same, Rest, Puts, Joins, Settles}
 use Rattle.disk_model.specs.Moments.{Ticks}
-use Rattle.disk_model.specs.Past.{Files, value_of, changed, run, until, first_of, tree_of, lists_of, Moves, Noted, all_before}
-use Rattle.disk_model.specs.PastLaws.{AllBefore, from_test, to_test, until-all}
+use Rattle.disk_model.specs.Past.{Files, value_of, changed, run, first_of, tree_of, lists_of, Moves, Noted, all_before}
+use Rattle.disk_model.specs.PastLaws.{from_test, until-all}
 use Rattle.disk_model.proofs.Names.{same_or_not}
 use Rattle.disk_model.proofs.Recorded.{tree_at, tree_rest, lists_rest, lists_at, joined, ticks_push}
 

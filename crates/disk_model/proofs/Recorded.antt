@@ -1,6 +1,5 @@
 -- One more change of a disk in memory.
-use Rattle.std.proofs.Common.{◌≡◌, ◌≢◌, ◌⊎◌, inl, inr, ⊎_elim, ℕ, ◌+◌, ◌<◌, ◌≤◌, ◌^◌, Bool, true, false, not, ◌&&◌, cond, nat_lt, List, [], ◌∷◌, ◌++◌, Option, Some, None, Vec, Result, Ok, Err, refl, sym, ◌∙◌, ap, subst, arith}
-use Rattle.std.specs.declared.alloc.Global.{Global}
+use Rattle.std.proofs.Common.{◌≡◌, ◌≢◌, inl, inr, ℕ, ◌+◌, ◌<◌, ◌≤◌, ◌^◌, Bool, true, false, not, ◌&&◌, cond, nat_lt, List, [], ◌∷◌, ◌++◌, Option, Result, Ok, Err, refl, sym, ◌∙◌, ap, subst, arith}
 use Rattle.std.specs.Str.{bytes_eq}
 use Rattle.std.proofs.lemmas.Slice.Eq.{bytes_eq-Decides}
 use Rattle.std.proofs.lemmas.Bool.{cases_Bool}
@@ -8,11 +7,9 @@ use Rattle.std.proofs.lemmas.Bool.Decides.{nat_tests}
 use Rattle.disk_model.specs.declared.memory.change.Change.{Change}
 use Rattle.std.specs.Prelude.{OnOk, OnErr}
 use Rattle.nx_base.specs.declared.name_err.NoMemory.{NoMemory as OutOfMemory}
-use Rattle.disk_model.specs.declared.disk_err.DiskErr.{DiskErr}
-use Rattle.disk_model.specs.declared.disk_err.DiskErr.TheVariants.{Failed, NoMemory}
-use Rattle.disk_model.specs.Disk.{Tree, Lists, Outside, Among, After, Same, Rest, Puts, Joins, Settles}
+use Rattle.disk_model.specs.Disk.{Lists}
 use Rattle.disk_model.specs.Moments.{Ticks}
-use Rattle.disk_model.specs.Past.{Files, At, value_of, now_of, now_step, changed, Moves, Noted, all_before, step, run, until, first_of, tree_of, lists_of}
+use Rattle.disk_model.specs.Past.{Files, At, value_of, now_of, now_step, changed, all_before, step, run, until, first_of, tree_of, lists_of}
 use Rattle.disk_model.specs.PastLaws.{AllBefore, from_test, to_test, until-all}
 
 run-push : (n : List ℕ) (log : List Change) (c : Change) (s : At) → run n (log ++ c ∷ []) s ≡ step n c (run n log s)

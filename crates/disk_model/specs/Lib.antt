@@ -4,3 +4,4 @@ pub mod Moments
 pub mod Past
 pub mod PastLaws
 pub mod Seen
+pub mod Trail

@@ -6,6 +6,7 @@ mod disk;
 mod history;
 mod reader;
 mod shelf;
+mod trail;
 mod writer;
 
 pub use disk::MemDisk;

@@ -71,6 +71,36 @@ fn each_failing_call_of_a_replacement(rt: HostRuntime) -> Result<(), Stop> {
     Ok(())
 }
 
+// Whether a crash at the moment leaves the name one of the two texts, and nothing else.
+fn leaves_old_or_new(disk: &MemDisk, moment: u64, a: &Name) -> bool {
+    match disk.values_at(moment, a) {
+        Ok(values) => values.iter().all(|value| match value {
+            Some(bytes) => bytes.as_slice() == b"old".as_slice()
+                || bytes.as_slice() == b"new".as_slice(),
+            None => false,
+        }),
+        Err(_) => false,
+    }
+}
+
+#[test]
+fn crashes_at_each_moment_of_a_replacement(rt: HostRuntime) -> Result<(), Stop> {
+    let alloc = rt.alloc();
+    let a = name(alloc, "a")?;
+    for stop in 0..5 {
+        let mut disk = one_file(alloc, Vec::new(alloc), Some(stop))?;
+        let _answer = replace_small(&mut disk, &a, b"new");
+        for moment in 0..4 {
+            assert!(rt; leaves_old_or_new(&disk, moment, &a));
+        }
+        let Ok(values) = disk.values_at(disk.clock(), &a) else {
+            return Err(Stop::Test);
+        };
+        assert_eq!(rt; values.len(), if stop == 0 || stop >= 3 { 1 } else { 2 });
+    }
+    Ok(())
+}
+
 #[test]
 fn failing_parts(rt: HostRuntime) -> Result<(), Stop> {
     let alloc = rt.alloc();

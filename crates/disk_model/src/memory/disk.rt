@@ -1,4 +1,4 @@
-ghost use Rattle.std.specs.Prelude.{◌≡◌, ◌<◌, ◌+◌, ◌++◌, ◌∷◌, ◌^◌, [], ℕ, List, take, Some, None, IfOk, OnOk, OnErr, true, option_map, vec_len};
+ghost use Rattle.std.specs.Prelude.{◌≡◌, ◌<◌, ◌+◌, ◌++◌, ◌∷◌, ◌^◌, [], ℕ, List, take, Some, None, IfOk, OnOk, OnErr, true, map, option_map, vec_len};
 ghost use Rattle.nx_io.specs.Causes.{HasCauseWhere};
 ghost use Rattle.disk_model.specs.Seen.{seen};
 ghost use Rattle.disk_model.specs.Past.{all_before, value_of, lookup, tree_of, lists_of, Moves, Noted, fails_at, FailsWhere};
@@ -123,6 +123,14 @@ impl MemDisk {
         ensures { seen result ≡ tree_of self.now.history.files.items self.now.history.log.items name.now }
     {
         self.history.find(name)
+    }
+
+    /// The values that a crash may leave of the name at a moment of the clock, in the order in which they joined. A
+    /// value that joined twice stands there twice. It is no call of the disk.
+    pub fn values_at(&self, moment: u64, name: &Name) -> Result<Vec<Option<Vec<u8>>>, NoMemory>
+        ensures { IfOk result (λ v. map value_of v.items ≡ lists_of self.now.history.files.items self.now.history.log.items moment name.now) }
+    {
+        self.history.values_at(moment, name)
     }
 
     /// The clock: how many calls there were.

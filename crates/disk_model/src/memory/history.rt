@@ -1,10 +1,11 @@
-ghost use Rattle.std.specs.Prelude.{◌≡◌, ◌++◌, ◌∷◌, [], ℕ, List, true, OnOk, OnErr, IfOk};
-ghost use Rattle.disk_model.specs.Past.{same_value, now_of, lookup, tree_of};
+ghost use Rattle.std.specs.Prelude.{◌≡◌, ◌++◌, ◌∷◌, [], ℕ, List, true, OnOk, OnErr, IfOk, map};
+ghost use Rattle.disk_model.specs.Past.{same_value, now_of, lookup, tree_of, lists_of, value_of};
 ghost use Rattle.disk_model.specs.Seen.{shown, seen};
 ghost use Rattle.disk_model.specs.Disk.{IsListing};
 
 use crate::memory::change::Change;
 use crate::memory::shelf::Shelf;
+use crate::memory::trail::Trail;
 use nx_base::{Name, NoMemory};
 use std::alloc::Global;
 
@@ -36,6 +37,20 @@ fn shelved(alloc: Global, files: &[(Name, Vec<u8>)]) -> Result<Shelf, NoMemory>
     Ok(shelf)
 }
 
+// The bytes of the first file of that name.
+fn first_file<'a>(files: &'a [(Name, Vec<u8>)], name: &Name) -> Option<&'a [u8]>
+    ensures { seen result ≡ lookup name.now files.now }
+{
+    let mut rest = files;
+    while let [file, after @ ..] = rest {
+        if name.as_bytes() == file.0.as_bytes() {
+            return Some(file.1.as_slice());
+        }
+        rest = after;
+    }
+    None
+}
+
 impl History {
     pub fn new(alloc: Global, files: Vec<(Name, Vec<u8>)>) -> Result<History, NoMemory>
         ensures files { IfOk result (λ history. history.files.items ≡ files.items) }
@@ -62,6 +77,18 @@ impl History {
         ensures { IfOk result (λ names. IsListing prefix.now (tree_of self.now.files.items self.now.log.items) names.items) }
     {
         self.shelf.list(self.alloc, prefix)
+    }
+
+    /// The values that a crash may leave of the name at a moment of the clock, in the order in which they joined.
+    pub fn values_at(&self, moment: u64, name: &Name) -> Result<Vec<Option<Vec<u8>>>, NoMemory>
+        ensures { IfOk result (λ v. map value_of v.items ≡ lists_of self.now.files.items self.now.log.items moment name.now) }
+    {
+        let first = first_file(&self.files, name);
+        let mut trail = Trail::start(self.alloc, first)?;
+        for change in &self.log {
+            trail.consider(self.alloc, moment, name, change)?;
+        }
+        Ok(trail.into_values())
     }
 
     /// One more change.

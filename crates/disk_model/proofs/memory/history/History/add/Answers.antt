@@ -1,4 +1,4 @@
-use Rattle.std.proofs.Common.{◌≡◌, ◌∙◌, ◌++◌, ◌∷◌, [], ap, List}
+use Rattle.std.proofs.Common.{◌∙◌, ◌++◌, ◌∷◌, [], ap, List}
 use Rattle.disk_model.specs.declared.memory.change.Change.{Change}
 use Rattle.disk_model.specs.Past.{lookup}
 use Rattle.disk_model.specs.Seen.{shown}

@@ -1,4 +1,4 @@
-use Rattle.std.proofs.Common.{◌≡◌, ◌++◌, ◌∙◌, ◌∷◌, [], ap, sym, List, ℕ, String, Vec}
+use Rattle.std.proofs.Common.{◌++◌, ◌∙◌, ap, sym, List, ℕ, String, Vec}
 use Rattle.std.specs.declared.alloc.Global.{Global}
 use Rattle.std.proofs.lemmas.List.{append-nil}
 use Rattle.disk_model.specs.Listed.{listed}

@@ -1,4 +1,4 @@
-use Rattle.std.proofs.Common.{◌≡◌, ◌∙◌, None, ap, List, ℕ, cond}
+use Rattle.std.proofs.Common.{◌∙◌, None, ap, List, ℕ, cond}
 use Rattle.std.specs.Str.{bytes_eq}
 use Rattle.disk_model.specs.Seen.{shown}
 use Rattle.disk_model.proofs.ShelfLemmas.{updated}
