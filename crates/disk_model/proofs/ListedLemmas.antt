@@ -1,6 +1,6 @@
 -- The keys of a map at or below a prefix are a listing.
 use Rattle.std.proofs.Common.{◌≡◌, inl, inr, ℕ, suc, ◌+◌, Bool, true, false, true≢false, ◌&&◌, ◌==◌, cond, List, [], ◌∷◌, ◌++◌, length, take, drop, Option, Some, None, Vec, refl, sym, ap, ◌∙◌, subst, arith}
-use Rattle.std.specs.Prelude.{String, IsSome, option_map, nat_eq, map}
+use Rattle.std.specs.Prelude.{String, IsSome, option_map, nat_eq, map, not}
 use Rattle.std.specs.List.{AllByRecursion}
 use Rattle.std.specs.List.Sorted.{IsStrictlySortedBy}
 use Rattle.std.specs.declared.alloc.Global.{Global}
@@ -24,7 +24,7 @@ use Rattle.nx_base.specs.Paths.{file_name_of}
 use Rattle.nx_base.proofs.ReadsItself.{file_name_of-same}
 use Rattle.nx_base.specs.Order.{name_cmp}
 use Rattle.disk_model.specs.Disk.{AtOrBelow, IsIn, Rises, IsListing, Tree}
-use Rattle.disk_model.specs.Listed.{is_at_or_below, listed}
+use Rattle.disk_model.specs.Listed.{is_at_or_below, listed, AreBeside}
 use Rattle.disk_model.specs.PastLaws.{and_cases}
 
 -- ---- the test and the fact
@@ -85,20 +85,20 @@ equal Greater same = absurd (true≢false (sym same))
 key-is : (n : List ℕ) (k : String Global) → is_key n k ≡ true → n ≡ string_bytes k
 key-is n k same = exact_bytes n (string_bytes k) (equal (slice_cmp nat_cmp n (string_bytes k)) same)
 
--- each key at or below the prefix is listed
-pub listed-all : (prefix n : List ℕ) (es : Entries) → is_at_or_below prefix n ≡ true → IsSome (lookup (is_key n) es) → IsIn n (listed prefix es)
-listed-all prefix n [] below none = absurd (true≢false (sym none))
-listed-all prefix n (e ∷ es) below found = elim (cases_Bool (is_key n e.0)) [
+-- each chosen key is listed
+pub listed-all : (chosen : List ℕ → Bool) (n : List ℕ) (es : Entries) → chosen n ≡ true → IsSome (lookup (is_key n) es) → IsIn n (listed chosen es)
+listed-all chosen n [] below none = absurd (true≢false (sym none))
+listed-all chosen n (e ∷ es) below found = elim (cases_Bool (is_key n e.0)) [
   | inl here ↦ first (key-is n e.0 here)
-  | inr other ↦ later (listed-all prefix n es below (subst (λ (b : Bool). IsSome (cond b (Some e.1) (lookup (is_key n) es))) other found))
+  | inr other ↦ later (listed-all chosen n es below (subst (λ (b : Bool). IsSome (cond b (Some e.1) (lookup (is_key n) es))) other found))
 ] where
-  first : n ≡ string_bytes e.0 → IsIn n (listed prefix (e ∷ es))
+  first : n ≡ string_bytes e.0 → IsIn n (listed chosen (e ∷ es))
   first same =
-      let test : is_at_or_below prefix (string_bytes e.0) ≡ true = subst (λ (x : List ℕ). is_at_or_below prefix x ≡ true) same below in
+      let test : chosen (string_bytes e.0) ≡ true = subst (λ (x : List ℕ). chosen x ≡ true) same below in
       rw test (inl same)
 
-  later : IsIn n (listed prefix es) → IsIn n (listed prefix (e ∷ es))
-  later there = elim (is_at_or_below prefix (string_bytes e.0)) as (λ b. IsIn n (cond b (string_bytes e.0 ∷ listed prefix es) (listed prefix es))) [
+  later : IsIn n (listed chosen es) → IsIn n (listed chosen (e ∷ es))
+  later there = elim (chosen (string_bytes e.0)) as (λ b. IsIn n (cond b (string_bytes e.0 ∷ listed chosen es) (listed chosen es))) [
     | true ↦ inr there
     | false ↦ there
   ]
@@ -112,19 +112,19 @@ lookup-here n e es here = rw here refl
 lookup-later : (n : List ℕ) (e : String Global × Vec ℕ Global) (es : Entries) → IsSome (lookup (is_key n) es) → IsSome (lookup (is_key n) (e ∷ es))
 lookup-later n e es there = elim (is_key n e.0) as (λ b. IsSome (cond b (Some e.1) (lookup (is_key n) es))) [ true ↦ refl | false ↦ there ]
 
--- each listed name is a key at or below the prefix
-pub listed-only : (prefix n : List ℕ) (es : Entries) → IsIn n (listed prefix es) → (is_at_or_below prefix n ≡ true) × IsSome (lookup (is_key n) es)
-listed-only prefix n [] there = absurd there
-listed-only prefix n (e ∷ es) there = elim (cases_Bool (is_at_or_below prefix (string_bytes e.0))) [
-  | inl test ↦ among test (listed-only prefix n es) (subst (λ (b : Bool). IsIn n (cond b (string_bytes e.0 ∷ listed prefix es) (listed prefix es))) test there)
-  | inr not ↦ deeper (listed-only prefix n es (subst (λ (b : Bool). IsIn n (cond b (string_bytes e.0 ∷ listed prefix es) (listed prefix es))) not there))
+-- each listed name is a chosen key
+pub listed-only : (chosen : List ℕ → Bool) (n : List ℕ) (es : Entries) → IsIn n (listed chosen es) → (chosen n ≡ true) × IsSome (lookup (is_key n) es)
+listed-only chosen n [] there = absurd there
+listed-only chosen n (e ∷ es) there = elim (cases_Bool (chosen (string_bytes e.0))) [
+  | inl test ↦ among test (listed-only chosen n es) (subst (λ (b : Bool). IsIn n (cond b (string_bytes e.0 ∷ listed chosen es) (listed chosen es))) test there)
+  | inr not ↦ deeper (listed-only chosen n es (subst (λ (b : Bool). IsIn n (cond b (string_bytes e.0 ∷ listed chosen es) (listed chosen es))) not there))
 ] where
-  deeper : (is_at_or_below prefix n ≡ true) × IsSome (lookup (is_key n) es) → (is_at_or_below prefix n ≡ true) × IsSome (lookup (is_key n) (e ∷ es))
+  deeper : (chosen n ≡ true) × IsSome (lookup (is_key n) es) → (chosen n ≡ true) × IsSome (lookup (is_key n) (e ∷ es))
   deeper found = (found.0, lookup-later n e es found.1)
 
-  among : is_at_or_below prefix (string_bytes e.0) ≡ true → (IsIn n (listed prefix es) → (is_at_or_below prefix n ≡ true) × IsSome (lookup (is_key n) es))
-      → IsIn n (string_bytes e.0 ∷ listed prefix es) → (is_at_or_below prefix n ≡ true) × IsSome (lookup (is_key n) (e ∷ es))
-  among test later (inl same) = (subst (λ (x : List ℕ). is_at_or_below prefix x ≡ true) (sym same) test, lookup-here n e es (key-refl n e.0 same))
+  among : chosen (string_bytes e.0) ≡ true → (IsIn n (listed chosen es) → (chosen n ≡ true) × IsSome (lookup (is_key n) es))
+      → IsIn n (string_bytes e.0 ∷ listed chosen es) → (chosen n ≡ true) × IsSome (lookup (is_key n) (e ∷ es))
+  among test later (inl same) = (subst (λ (x : List ℕ). chosen x ≡ true) (sym same) test, lookup-here n e es (key-refl n e.0 same))
   among test later (inr there) = deeper (later there)
 
 -- ---- the order
@@ -137,26 +137,26 @@ abbrev keys_of : Entries → List (String Global)
 keys_of [] = []
 keys_of (e ∷ es) = e.0 ∷ keys_of es
 
-above-listed : (prefix : List ℕ) (k : String Global) (es : Entries) → AllByRecursion (λ y. string_cmp k y ≡ Less) (keys_of es)
-    → (n : List ℕ) → IsIn n (listed prefix es) → name_cmp (string_bytes k) n ≡ Less
-above-listed prefix k [] above n there = absurd there
-above-listed prefix k (e ∷ es) above n there =
-    elim (is_at_or_below prefix (string_bytes e.0)) as (λ b. IsIn n (cond b (string_bytes e.0 ∷ listed prefix es) (listed prefix es)) → name_cmp (string_bytes k) n ≡ Less) [
-      | true ↦ λ here. among (above-listed prefix k es above.1 n) here
-      | false ↦ λ here. above-listed prefix k es above.1 n here
+above-listed : (chosen : List ℕ → Bool) (k : String Global) (es : Entries) → AllByRecursion (λ y. string_cmp k y ≡ Less) (keys_of es)
+    → (n : List ℕ) → IsIn n (listed chosen es) → name_cmp (string_bytes k) n ≡ Less
+above-listed chosen k [] above n there = absurd there
+above-listed chosen k (e ∷ es) above n there =
+    elim (chosen (string_bytes e.0)) as (λ b. IsIn n (cond b (string_bytes e.0 ∷ listed chosen es) (listed chosen es)) → name_cmp (string_bytes k) n ≡ Less) [
+      | true ↦ λ here. among (above-listed chosen k es above.1 n) here
+      | false ↦ λ here. above-listed chosen k es above.1 n here
     ] there
   where
-    among : (IsIn n (listed prefix es) → name_cmp (string_bytes k) n ≡ Less) → IsIn n (string_bytes e.0 ∷ listed prefix es) → name_cmp (string_bytes k) n ≡ Less
+    among : (IsIn n (listed chosen es) → name_cmp (string_bytes k) n ≡ Less) → IsIn n (string_bytes e.0 ∷ listed chosen es) → name_cmp (string_bytes k) n ≡ Less
     among later (inl same) = rw same above.0
     among later (inr there) = later there
 
-pub listed-rises : (prefix : List ℕ) (es : Entries) → IsStrictlySortedBy string_cmp (keys_of es) → Rises (listed prefix es)
+pub listed-rises : (chosen : List ℕ → Bool) (es : Entries) → IsStrictlySortedBy string_cmp (keys_of es) → Rises (listed chosen es)
 unfolding IsStrictlySortedBy
-listed-rises prefix [] sorted = tt
-listed-rises prefix (e ∷ es) sorted =
-    elim (is_at_or_below prefix (string_bytes e.0)) as (λ b. Rises (cond b (string_bytes e.0 ∷ listed prefix es) (listed prefix es))) [
-      | true ↦ rises-cons (string_bytes e.0) (listed prefix es) (above-listed prefix e.0 es sorted.0) (listed-rises prefix es sorted.1)
-      | false ↦ listed-rises prefix es sorted.1
+listed-rises chosen [] sorted = tt
+listed-rises chosen (e ∷ es) sorted =
+    elim (chosen (string_bytes e.0)) as (λ b. Rises (cond b (string_bytes e.0 ∷ listed chosen es) (listed chosen es))) [
+      | true ↦ rises-cons (string_bytes e.0) (listed chosen es) (above-listed chosen e.0 es sorted.0) (listed-rises chosen es sorted.1)
+      | false ↦ listed-rises chosen es sorted.1
     ]
 
 keys_of-map : (es : Entries) → map (λ e. e.0) es ≡ keys_of es
@@ -172,12 +172,33 @@ items-some None found = found
 items-some (Some v) found = refl
 
 -- the keys of a map at or below the prefix are its listing
-pub listing : (prefix : List ℕ) (m : BTreeMap (String Global) (Vec ℕ Global)) (names : List (List ℕ)) → IsStrictlySortedBy string_cmp (keys m) → names ≡ listed prefix m.entries
+pub listing : (prefix : List ℕ) (m : BTreeMap (String Global) (Vec ℕ Global)) (names : List (List ℕ)) → IsStrictlySortedBy string_cmp (keys m) → names ≡ listed (is_at_or_below prefix) m.entries
     → IsListing prefix (λ n. option_map (λ v. v.items) (get_by_text m n)) names
 listing prefix m names sorted same = rw same (record {
-  rises = listed-rises prefix m.entries (subst (IsStrictlySortedBy string_cmp) (keys_of-map m.entries) sorted);
-  all = λ n below found. listed-all prefix n m.entries (test-from_below prefix n below) (some-items (get_by_text m n) found);
-  only = λ n there. let found = listed-only prefix n m.entries there in (below-from_test prefix n found.0, items-some (get_by_text m n) found.1);
+  rises = listed-rises (is_at_or_below prefix) m.entries (subst (IsStrictlySortedBy string_cmp) (keys_of-map m.entries) sorted);
+  all = λ n below found. listed-all (is_at_or_below prefix) n m.entries (test-from_below prefix n below) (some-items (get_by_text m n) found);
+  only = λ n there. let found = listed-only (is_at_or_below prefix) n m.entries there in (below-from_test prefix n found.0, items-some (get_by_text m n) found.1);
+})
+
+abbrev pub is_beside : List ℕ → List ℕ → Bool
+is_beside prefix n = not (is_at_or_below prefix n)
+
+beside-test : (prefix n : List ℕ) → (AtOrBelow prefix n → ⊥) → is_beside prefix n ≡ true
+beside-test prefix n beside = elim (cases_Bool (is_at_or_below prefix n)) [
+  | inl below ↦ absurd (beside (below-from_test prefix n below))
+  | inr other ↦ rw other refl
+]
+
+test-beside : (prefix n : List ℕ) → is_beside prefix n ≡ true → AtOrBelow prefix n → ⊥
+test-beside prefix n beside below = true≢false (sym beside ∙ ap not (test-from_below prefix n below))
+
+-- the keys beside the prefix
+pub beside : (prefix : List ℕ) (m : BTreeMap (String Global) (Vec ℕ Global)) (names : List (List ℕ)) → IsStrictlySortedBy string_cmp (keys m) → names ≡ listed (is_beside prefix) m.entries
+    → AreBeside prefix (λ n. option_map (λ v. v.items) (get_by_text m n)) names
+beside prefix m names sorted same = rw same (record {
+  rises = listed-rises (is_beside prefix) m.entries (subst (IsStrictlySortedBy string_cmp) (keys_of-map m.entries) sorted);
+  all = λ n other found. listed-all (is_beside prefix) n m.entries (beside-test prefix n other) (some-items (get_by_text m n) found);
+  only = λ n there. test-beside prefix n (listed-only (is_beside prefix) n m.entries there).0;
 })
 
 -- ---- the test by `strip_prefix`
@@ -214,12 +235,12 @@ ends_here-next (b ∷ rest) long = refl
 -- ---- the loop over the map
 
 -- one entry more
-pub listed-step : (names : List (List ℕ)) (prefix : List ℕ) (e : String Global × Vec ℕ Global) (es : Entries)
-    → (names ++ (if is_at_or_below prefix (string_bytes e.0) then string_bytes e.0 ∷ [] else [])) ++ listed prefix es ≡ names ++ listed prefix (e ∷ es)
-listed-step names prefix e es =
-    elim (is_at_or_below prefix (string_bytes e.0)) as (λ b. (names ++ (if b then string_bytes e.0 ∷ [] else [])) ++ listed prefix es ≡ names ++ (if b then string_bytes e.0 ∷ listed prefix es else listed prefix es)) [
-      | true ↦ append_assoc names (string_bytes e.0 ∷ []) (listed prefix es)
-      | false ↦ ap (λ (l : List (List ℕ)). l ++ listed prefix es) (append-nil names)
+pub listed-step : (names : List (List ℕ)) (chosen : List ℕ → Bool) (e : String Global × Vec ℕ Global) (es : Entries)
+    → (names ++ (if chosen (string_bytes e.0) then string_bytes e.0 ∷ [] else [])) ++ listed chosen es ≡ names ++ listed chosen (e ∷ es)
+listed-step names chosen e es =
+    elim (chosen (string_bytes e.0)) as (λ b. (names ++ (if b then string_bytes e.0 ∷ [] else [])) ++ listed chosen es ≡ names ++ (if b then string_bytes e.0 ∷ listed chosen es else listed chosen es)) [
+      | true ↦ append_assoc names (string_bytes e.0 ∷ []) (listed chosen es)
+      | false ↦ ap (λ (l : List (List ℕ)). l ++ listed chosen es) (append-nil names)
     ]
 
 -- a name that was read is its text

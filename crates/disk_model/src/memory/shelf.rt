@@ -1,7 +1,7 @@
-ghost use Rattle.std.specs.Prelude.{◌≡◌, ◌++◌, ◌∷◌, [], ℕ, List, Some, None, if◌then◌else◌, IfOk, OnOk, OnErr};
+ghost use Rattle.std.specs.Prelude.{◌≡◌, ◌++◌, ◌∷◌, [], ℕ, List, not, Some, None, if◌then◌else◌, IfOk, OnOk, OnErr};
 ghost use Rattle.std.specs.Str.{bytes_eq};
 ghost use Rattle.disk_model.specs.Disk.{IsListing};
-ghost use Rattle.disk_model.specs.Listed.{is_at_or_below};
+ghost use Rattle.disk_model.specs.Listed.{is_at_or_below, AreBeside};
 
 use crate::memory::change::Change;
 use nx_base::{Name, NoMemory};
@@ -87,6 +87,36 @@ impl Shelf {
         }
         Ok(names)
     }
+
+    /// The names that are neither the prefix nor below it, in byte order.
+    pub fn names_beside(&self, alloc: Global, prefix: &[u8]) -> Result<Vec<Name>, NoMemory>
+        ensures { IfOk result (λ names. AreBeside prefix.now (shown self.now) names.items) }
+    {
+        let mut names = Vec::new(alloc);
+        for (key, _) in self.values.iter() {
+            add_if_beside(alloc, &mut names, prefix, key.as_str())?;
+        }
+        Ok(names)
+    }
+}
+
+// Adds the key to the names, unless it is at or below the prefix.
+fn add_if_beside(
+    alloc: Global,
+    names: &mut Vec<Name>,
+    prefix: &[u8],
+    key: &str,
+) -> Result<(), NoMemory>
+    ensures { OnOk result (names.new.items ≡ names.old.items ++ (if not (is_at_or_below prefix.now key.now) then key.now ∷ [] else [])) }
+{
+    if is_at_or_below(prefix, key.as_bytes()) {
+        return Ok(());
+    }
+    let name = name_of(alloc, key)?;
+    let Ok(()) = names.push(name) else {
+        return Err(NoMemory);
+    };
+    Ok(())
 }
 
 // Adds the key to the names, if it is at or below the prefix.
