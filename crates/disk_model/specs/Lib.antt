@@ -3,5 +3,6 @@ pub mod Listed
 pub mod Moments
 pub mod Past
 pub mod PastLaws
+pub mod Picked
 pub mod Seen
 pub mod Trail

@@ -1,9 +1,11 @@
-ghost use Rattle.std.specs.Prelude.{◌≡◌, ◌<◌, ◌+◌, ◌++◌, ◌∷◌, ◌^◌, [], ℕ, List, take, Some, None, IfOk, OnOk, OnErr, true, map, option_map, vec_len};
+ghost use Rattle.std.specs.Prelude.{◌≡◌, ◌<◌, ◌+◌, ◌/◌, length, if◌then◌else◌, ◌++◌, ◌∷◌, ◌^◌, [], ℕ, List, take, Some, None, IfOk, OnOk, OnErr, true, map, option_map, vec_len};
 ghost use Rattle.nx_io.specs.Causes.{HasCauseWhere};
 ghost use Rattle.disk_model.specs.Seen.{seen};
 ghost use Rattle.disk_model.specs.Past.{all_before, value_of, lookup, tree_of, lists_of, Moves, Noted, fails_at, FailsWhere};
+ghost use Rattle.std.specs.Str.{bytes_eq};
+ghost use Rattle.disk_model.specs.Picked.{picked, AreNames, or_else, value_picked};
 ghost use Rattle.disk_model.specs.Disk.{After, Puts, Joins, Settles, IsFault, small_limit};
-ghost use Rattle.disk_model.specs.Moments.{Ticks, Settled};
+ghost use Rattle.disk_model.specs.Moments.{Ticks, Settled, IsImage};
 
 use crate::disk::{Disk, SMALL_LIMIT};
 use crate::disk_err::DiskErr;
@@ -131,6 +133,50 @@ impl MemDisk {
         ensures { IfOk result (λ v. map value_of v.items ≡ lists_of self.now.history.files.items self.now.history.log.items moment name.now) }
     {
         self.history.values_at(moment, name)
+    }
+
+    // Gives the name the value that the number picks of its list, and answers what is left of the number.
+    fn pick_value(
+        &self,
+        files: &mut Vec<(Name, Vec<u8>)>,
+        name: &Name,
+        pick: u64,
+    ) -> Result<u64, NoMemory>
+        ensures left { IfOk result (λ left. left ≡ pick / length (lists_of self.now.history.files.items self.now.history.log.items self.now.calls name.now)) }
+        ensures value { OnOk result ((n : List ℕ) → lookup n files.new.items ≡ or_else (lookup n files.old.items) (if bytes_eq n name.now
+            then value_picked (lists_of self.now.history.files.items self.now.history.log.items self.now.calls name.now) pick else None)) }
+    {
+        let mut values = self.values_at(self.calls, name)?;
+        let len = values.as_slice().len() as u64;
+        let at = (pick % len) as usize;
+        let Some(bytes) = values.remove(at) else {
+            return Ok(pick / len);
+        };
+        let name = name.try_clone(self.alloc)?;
+        let Ok(()) = files.push((name, bytes)) else {
+            return Err(NoMemory);
+        };
+        Ok(pick / len)
+    }
+
+    /// A disk that never fails, with one of the images that a crash may leave now. The digits of `pick` choose a value
+    /// for each name, the names in byte order, the first one by the least digit; a name's values count in the order in
+    /// which they joined. The names in `tmp` are absent.
+    pub fn crash(self, pick: u64) -> Result<MemDisk, NoMemory>
+        ensures picked { IfOk result (λ d. (names : List (List ℕ))
+            × AreNames (lists_of self.history.files.items self.history.log.items self.calls) names
+            × ((n : List ℕ) → tree_of d.history.files.items d.history.log.items n ≡ picked (lists_of self.history.files.items self.history.log.items self.calls) names pick n)) }
+        ensures image { IfOk result (λ d. IsImage (lists_of self.history.files.items self.history.log.items self.calls) (tree_of d.history.files.items d.history.log.items)) }
+        ensures settled { IfOk result (λ d. Settled (tree_of d.history.files.items d.history.log.items) (lists_of d.history.files.items d.history.log.items d.calls)) }
+        ensures sound { IfOk result (λ d. (d.failing.items ≡ []) × (d.stop_after ≡ None)) }
+    {
+        let names = self.history.names()?;
+        let mut files = Vec::new(self.alloc);
+        let mut left = pick;
+        for name in &names {
+            left = self.pick_value(&mut files, name, left)?;
+        }
+        MemDisk::new(self.alloc, files, Vec::new(self.alloc), None)
     }
 
     /// The clock: how many calls there were.

@@ -1,7 +1,8 @@
 ghost use Rattle.std.specs.Prelude.{◌≡◌, ◌++◌, ◌∷◌, [], ℕ, List, true, OnOk, OnErr, IfOk, map};
-ghost use Rattle.disk_model.specs.Past.{same_value, now_of, lookup, tree_of, lists_of, value_of};
+ghost use Rattle.disk_model.specs.Past.{same_value, now_of, lookup, tree_of, lists_of, value_of, run, first_of};
 ghost use Rattle.disk_model.specs.Seen.{shown, seen};
 ghost use Rattle.disk_model.specs.Disk.{IsListing};
+ghost use Rattle.disk_model.specs.Picked.{AreNames};
 
 use crate::memory::change::Change;
 use crate::memory::shelf::Shelf;
@@ -89,6 +90,20 @@ impl History {
             trail.consider(self.alloc, moment, name, change)?;
         }
         Ok(trail.into_values())
+    }
+
+    /// The names outside `tmp` that have a file or a change, in byte order.
+    pub fn names(&self) -> Result<Vec<Name>, NoMemory>
+        ensures { IfOk result (λ names. AreNames (λ n. (run n self.now.log.items (first_of n self.now.files.items)).1) names.items) }
+    {
+        let mut shelf = Shelf::new(self.alloc);
+        for file in &self.files {
+            shelf.put(self.alloc, &file.0, Vec::new(self.alloc))?;
+        }
+        for change in &self.log {
+            shelf.put(self.alloc, &change.name, Vec::new(self.alloc))?;
+        }
+        shelf.names_beside(self.alloc, b"tmp")
     }
 
     /// One more change.
