@@ -102,6 +102,33 @@ fn crashes_at_each_moment_of_a_replacement(rt: HostRuntime) -> Result<(), Stop> 
 }
 
 #[test]
+fn images_of_a_replacement(rt: HostRuntime) -> Result<(), Stop> {
+    let alloc = rt.alloc();
+    let a = name(alloc, "a")?;
+    let rows = [
+        (0, 0, b"old".as_slice()),
+        (0, 1, b"old".as_slice()),
+        (1, 0, b"old".as_slice()),
+        (1, 1, b"new".as_slice()),
+        (2, 0, b"old".as_slice()),
+        (2, 1, b"new".as_slice()),
+        (2, 2, b"old".as_slice()),
+        (3, 0, b"new".as_slice()),
+        (3, 1, b"new".as_slice()),
+    ];
+    for (stop, pick, text) in rows {
+        let mut disk = one_file(alloc, Vec::new(alloc), Some(stop))?;
+        let _answer = replace_small(&mut disk, &a, b"new");
+        let Ok(mut left) = disk.crash(pick) else {
+            return Err(Stop::Test);
+        };
+        assert_eq!(rt; left.value(&a), Some(text));
+        assert_eq!(rt; replace_small(&mut left, &a, b"newer"), Ok(()));
+    }
+    Ok(())
+}
+
+#[test]
 fn failing_parts(rt: HostRuntime) -> Result<(), Stop> {
     let alloc = rt.alloc();
     let a = name(alloc, "a")?;

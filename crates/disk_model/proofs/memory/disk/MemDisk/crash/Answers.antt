@@ -46,8 +46,8 @@ returns-clause-picked c =
     let are : AreNames lists names = subst (AreNames lists) (sym c.deref-name-items.ensures.value) (names-now d.history.files.items d.history.log.items d.calls c.in_ok-names.names.items d.before c.in_ok-names.ensures) in
     crash-picked lists names c.args.pick files are
     (λ n. sym (or_else-none (lookup n files))
-        ∙ sym (ap (λ (l : List (List ℕ)). or_else (lookup n files) (picked lists l c.loop-name.left n)) none)
-        ∙ c.loop-name.invariant n)
+    ∙ sym (ap (λ (l : List (List ℕ)). or_else (lookup n files) (picked lists l c.loop-name.left n)) none)
+    ∙ c.loop-name.invariant n)
     c.new-2.result c.new-2.ensures.tree
 
 pub returns-clause-image : goal.returns-clause-image
@@ -61,7 +61,7 @@ returns-clause-image c =
     let are : AreNames lists names = subst (AreNames lists) (sym c.deref-name-items.ensures.value) (names-now d.history.files.items d.history.log.items d.calls c.in_ok-names.names.items d.before c.in_ok-names.ensures) in
     crash-image lists names c.args.pick files are
     (λ n. sym (or_else-none (lookup n files))
-        ∙ sym (ap (λ (l : List (List ℕ)). or_else (lookup n files) (picked lists l c.loop-name.left n)) none)
-        ∙ c.loop-name.invariant n)
+    ∙ sym (ap (λ (l : List (List ℕ)). or_else (lookup n files) (picked lists l c.loop-name.left n)) none)
+    ∙ c.loop-name.invariant n)
     (λ n. nonempty _ (lists n) (present_of d.history.files.items d.history.log.items d.calls n d.before))
     c.new-2.result c.new-2.ensures.tree

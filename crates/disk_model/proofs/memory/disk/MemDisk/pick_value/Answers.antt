@@ -40,10 +40,10 @@ returns-clause-value c = λ n.
     let long : length slice ≡ length items = ap length c.as_slice.ensures.value in
     let below : c.args.pick % length slice < length items = omega arith in
     let value : value_picked list c.args.pick ≡ Some bytes.items =
-        sym (ap (λ (k : ℕ). get_or list (c.args.pick % k) None) same)
-        ∙ sym (ap (λ (l : List (Option (List ℕ))). get_or l (c.args.pick % length slice) None) c.in_ok-values.ensures)
-        ∙ get-map-values items (c.args.pick % length slice) (Some bytes) below
-        ∙ sym (ap value_of c.in-Some.ensures.value) in
+    sym (ap (λ (k : ℕ). get_or list (c.args.pick % k) None) same)
+    ∙ sym (ap (λ (l : List (Option (List ℕ))). get_or l (c.args.pick % length slice) None) c.in_ok-values.ensures)
+    ∙ get-map-values items (c.args.pick % length slice) (Some bytes) below
+    ∙ sym (ap value_of c.in-Some.ensures.value) in
     ap (λ (files : Files). lookup n files) c.in-Ok.ensures.items
     ∙ lookup-push n old c.in_ok-name.name bytes
     ∙ ap (λ (k : List ℕ). or_else (lookup n old) (cond (bytes_eq n k) (Some bytes.items) None)) c.in_ok-name.ensures
