@@ -1,12 +1,12 @@
 -- The disk that a crash leaves.
-use Rattle.std.proofs.Common.{true, ◌≡◌, ℕ, zero, suc, ◌+◌, ◌<◌, List, [], ◌∷◌, length, drop, Option, None, refl, sym, ap, ◌∙◌, subst, arith}
+use Rattle.std.proofs.Common.{true, ◌≡◌, ℕ, zero, suc, ◌<◌, List, [], ◌∷◌, length, drop, ap, ◌∙◌}
 use Rattle.std.specs.Prelude.{Result, Ok, Err, IfOk}
 use Rattle.nx_base.specs.declared.name_err.NoMemory.{NoMemory}
 use Rattle.disk_model.specs.declared.memory.change.Change.{Change}
 use Rattle.disk_model.specs.declared.memory.disk.MemDisk.{MemDisk}
 use Rattle.disk_model.specs.Disk.{Tree, Lists, Rises}
 use Rattle.disk_model.specs.Moments.{IsImage}
-use Rattle.disk_model.specs.Past.{Files, lookup, run, until, first_of, tree_of, lists_of, all_before}
+use Rattle.disk_model.specs.Past.{Files, lookup, run, first_of, tree_of, lists_of, all_before}
 use Rattle.disk_model.specs.PastLaws.{from_test, until-all}
 use Rattle.disk_model.specs.Picked.{picked, AreNames}
 use Rattle.disk_model.proofs.PickLemmas.{rises-rest, picked-image}

@@ -1,12 +1,11 @@
 -- The image that a number picks.
-use Rattle.std.proofs.Common.{◌≡◌, ◌⊎◌, inl, inr, ℕ, zero, suc, ◌+◌, ◌<◌, ◌≤◌, ◌/◌, ◌%◌, Bool, true, false, true≢false, cond, ◌||◌, List, [], ◌∷◌, ◌++◌, length, get_or, take, drop, Option, Some, None, Vec, refl, sym, ap, ◌∙◌, subst, arith}
-use Rattle.std.specs.Prelude.{if◌then◌else◌, map, IsSome, is_some, Result, Ok, Err, IfOk, codes}
+use Rattle.std.proofs.Common.{◌≡◌, ◌⊎◌, inl, inr, ℕ, zero, suc, ◌<◌, ◌/◌, ◌%◌, Bool, true, false, true≢false, ◌||◌, List, [], ◌∷◌, ◌++◌, length, get_or, Option, Some, None, Vec, refl, sym, ap, ◌∙◌, subst, arith}
+use Rattle.std.specs.Prelude.{if◌then◌else◌, map, is_some, Result, Ok, Err, IfOk, codes}
 use Rattle.nx_base.specs.declared.name_err.NoMemory.{NoMemory}
 use Rattle.disk_model.specs.Listed.{AreBeside}
 use Rattle.std.specs.List.{list_any}
 use Rattle.std.specs.declared.alloc.Global.{Global}
-use Rattle.std.specs.declared.cmp.Ordering.{Ordering}
-use Rattle.std.specs.declared.cmp.Ordering.TheVariants.{Less, Equal, Greater}
+use Rattle.std.specs.declared.cmp.Ordering.TheVariants.{Less}
 use Rattle.std.specs.Str.{bytes_eq}
 use Rattle.std.specs.Ordering.{is_eq}
 use Rattle.std.specs.Cmp.Lexicographic.{nat_list_cmp_total}
@@ -15,9 +14,9 @@ use Rattle.std.proofs.lemmas.Map.Text.{is_eq-slice_cmp}
 use Rattle.std.proofs.lemmas.Bool.{cases_Bool}
 use Rattle.nx_base.specs.Order.{name_cmp}
 use Rattle.disk_model.specs.declared.memory.change.Change.{Change}
-use Rattle.disk_model.specs.Disk.{Tree, Lists, Outside, Among, IsIn, Rises}
+use Rattle.disk_model.specs.Disk.{Tree, Lists, Among, IsIn, Rises}
 use Rattle.disk_model.specs.Moments.{IsImage}
-use Rattle.disk_model.specs.Past.{Files, At, lookup, value_of, changed, step, run, first_of}
+use Rattle.disk_model.specs.Past.{Files, At, lookup, value_of, run, first_of}
 use Rattle.disk_model.specs.Picked.{picked, AreNames, or_else}
 
 among-at : (list : List (Option (List ℕ))) (i : ℕ) → i < length list → Among (get_or list i None) list

@@ -1,7 +1,6 @@
-use Rattle.std.proofs.Common.{◌≡◌, ◌<◌, ◌%◌, ◌∙◌, ℕ, List, Option, Some, None, Vec, ap, sym, length, map, get_or, cond, vec_len, arith}
-use Rattle.std.specs.declared.alloc.Global.{Global}
+use Rattle.std.proofs.Common.{◌≡◌, ◌<◌, ◌%◌, ◌∙◌, ℕ, List, Option, Some, None, ap, sym, length, map, get_or, cond, arith}
 use Rattle.std.specs.Str.{bytes_eq}
-use Rattle.disk_model.specs.Past.{tree_of, lists_of, value_of, lookup, Files}
+use Rattle.disk_model.specs.Past.{lists_of, value_of, lookup, Files}
 use Rattle.disk_model.specs.PastLaws.{present_of}
 use Rattle.disk_model.specs.Picked.{or_else, value_picked}
 use Rattle.disk_model.proofs.PickLemmas.{nonempty, length-map-values, get-map-values, lookup-push}
