@@ -1,0 +1,9 @@
+pub mod Chain
+pub mod CrashLemmas
+pub mod Effects
+pub mod ListedLemmas
+pub mod Names
+pub mod PickLemmas
+pub mod Recorded
+pub mod ShelfLemmas
+pub mod Small

@@ -1,0 +1,423 @@
+ghost use Rattle.std.specs.Prelude.{◌≡◌, ◌<◌, ◌+◌, ◌/◌, length, if◌then◌else◌, ◌++◌, ◌∷◌, ◌^◌, [], ℕ, List, take, Some, None, IfOk, OnOk, OnErr, true, map, option_map, vec_len};
+ghost use Rattle.nx_io.specs.Causes.{HasCauseWhere};
+ghost use Rattle.disk_model.specs.Seen.{seen};
+ghost use Rattle.disk_model.specs.Past.{all_before, value_of, lookup, tree_of, lists_of, Moves, Noted, fails_at, FailsWhere};
+ghost use Rattle.std.specs.Str.{bytes_eq};
+ghost use Rattle.disk_model.specs.Picked.{picked, AreNames, or_else, value_picked};
+ghost use Rattle.disk_model.specs.Disk.{After, Puts, Joins, Settles, IsFault, small_limit};
+ghost use Rattle.disk_model.specs.Moments.{Ticks, Settled, IsImage};
+
+use crate::disk::{Disk, SMALL_LIMIT};
+use crate::disk_err::DiskErr;
+use crate::memory::change::Change;
+use crate::memory::count::{next, one_more, with_part};
+use crate::memory::history::History;
+use crate::memory::reader::MemReader;
+use crate::memory::writer::{MemSealed, MemWriter};
+use crate::reader::Reader;
+use nx_base::{Name, NoMemory};
+use std::alloc::Global;
+
+/// A disk in memory. Of its calls that can fail, those with the listed numbers do, and all from a number on.
+#[derive(Drop)]
+pub struct MemDisk {
+    alloc: Global,
+    history: History,
+    calls: u64,
+    failing: Vec<u64>,
+    stop_after: Option<u64>,
+    faults: u64,
+    looked: Option<u64>,
+    writers: u64,
+    readers: u64,
+    fail_writes: Vec<(u64, u64)>,
+    fail_reads: Vec<(u64, u64)>,
+    ghost before: { all_before calls history.log.items ≡ true },
+}
+
+// A copy of the first bytes of what was found.
+fn small_copy(alloc: Global, found: Option<&[u8]>) -> Result<Option<Vec<u8>>, NoMemory>
+    ensures { IfOk result (λ copy. option_map (λ v. v.items) copy ≡ option_map (λ bytes. take small_limit bytes) (seen found.entry)) }
+{
+    match found {
+        None => Ok(None),
+        Some(bytes) => match Vec::from_slice(alloc, first_bytes(bytes)) {
+            Ok(copy) => Ok(Some(copy)),
+            Err(_) => Err(NoMemory),
+        },
+    }
+}
+
+// The first 65,537 bytes at most.
+fn first_bytes(bytes: &[u8]) -> &[u8]
+    ensures { result.now ≡ take small_limit bytes.now }
+{
+    if bytes.len() <= SMALL_LIMIT {
+        return bytes;
+    }
+    &bytes[..SMALL_LIMIT]
+}
+
+// How many bytes a look found.
+fn len_of(found: &Option<Vec<u8>>) -> Option<u64>
+    ensures { result ≡ option_map (λ v. vec_len v) found.now }
+{
+    match found {
+        Some(bytes) => Some(bytes.len() as u64),
+        None => None,
+    }
+}
+
+// The calls of one part that fail.
+fn calls_of(alloc: Global, pairs: &[(u64, u64)], part: u64) -> Result<Vec<u64>, NoMemory> {
+    let mut calls = Vec::new(alloc);
+    for pair in pairs {
+        if pair.0 == part && calls.push(pair.1).is_err() {
+            return Err(NoMemory);
+        }
+    }
+    Ok(calls)
+}
+
+impl MemDisk {
+    /// A disk with these files, each settled. Of several files with one name the first counts.
+    pub fn new(
+        alloc: Global,
+        files: Vec<(Name, Vec<u8>)>,
+        failing: Vec<u64>,
+        stop_after: Option<u64>,
+    ) -> Result<MemDisk, NoMemory>
+        ensures tree { IfOk result (λ d. tree_of d.history.files.items d.history.log.items ≡ (λ n. lookup n files.items)) }
+        ensures settled { IfOk result (λ d. Settled (tree_of d.history.files.items d.history.log.items) (lists_of d.history.files.items d.history.log.items d.calls)) }
+        ensures faults { IfOk result (λ d. d.faults ≡ 0) }
+        ensures clock { IfOk result (λ d. d.calls ≡ 0) }
+        ensures looked { IfOk result (λ d. d.looked ≡ None) }
+        ensures failing { IfOk result (λ d. d.failing.items ≡ failing.items) }
+        ensures stop { IfOk result (λ d. d.stop_after ≡ stop_after) }
+    {
+        let history = History::new(alloc, files)?;
+        Ok(MemDisk {
+            alloc,
+            history,
+            calls: 0,
+            failing,
+            stop_after,
+            faults: 0,
+            looked: None,
+            writers: 0,
+            readers: 0,
+            fail_writes: Vec::new(alloc),
+            fail_reads: Vec::new(alloc),
+        })
+    }
+
+    /// Lets calls of the writers and readers that the disk gives from now on fail. A pair is the number of a writer, or
+    /// of a reader, and the number of its call, both counted from 0; `seal` is a call too.
+    pub fn fail_parts(&mut self, writes: Vec<(u64, u64)>, reads: Vec<(u64, u64)>)
+        ensures { self.new ≡ record self.old { fail_writes = writes; fail_reads = reads } }
+    {
+        self.fail_writes = writes;
+        self.fail_reads = reads;
+    }
+
+    /// The present value of the name. It is no call of the disk, so that the clock stays.
+    pub fn value(&self, name: &Name) -> Option<&[u8]>
+        ensures { seen result ≡ tree_of self.now.history.files.items self.now.history.log.items name.now }
+    {
+        self.history.find(name)
+    }
+
+    /// The values that a crash may leave of the name at a moment of the clock, in the order in which they joined. A
+    /// value that joined twice stands there twice. It is no call of the disk.
+    pub fn values_at(&self, moment: u64, name: &Name) -> Result<Vec<Option<Vec<u8>>>, NoMemory>
+        ensures { IfOk result (λ v. map value_of v.items ≡ lists_of self.now.history.files.items self.now.history.log.items moment name.now) }
+    {
+        self.history.values_at(moment, name)
+    }
+
+    // Gives the name the value that the number picks of its list, and answers what is left of the number.
+    fn pick_value(
+        &self,
+        files: &mut Vec<(Name, Vec<u8>)>,
+        name: &Name,
+        pick: u64,
+    ) -> Result<u64, NoMemory>
+        ensures left { IfOk result (λ left. left ≡ pick / length (lists_of self.now.history.files.items self.now.history.log.items self.now.calls name.now)) }
+        ensures value { OnOk result ((n : List ℕ) → lookup n files.new.items ≡ or_else (lookup n files.old.items) (if bytes_eq n name.now
+            then value_picked (lists_of self.now.history.files.items self.now.history.log.items self.now.calls name.now) pick else None)) }
+    {
+        let mut values = self.values_at(self.calls, name)?;
+        let len = values.as_slice().len() as u64;
+        let at = (pick % len) as usize;
+        let Some(bytes) = values.remove(at) else {
+            return Ok(pick / len);
+        };
+        let name = name.try_clone(self.alloc)?;
+        let Ok(()) = files.push((name, bytes)) else {
+            return Err(NoMemory);
+        };
+        Ok(pick / len)
+    }
+
+    /// A disk that never fails, with one of the images that a crash may leave now. The digits of `pick` choose a value
+    /// for each name, the names in byte order, the first one by the least digit; a name's values count in the order in
+    /// which they joined. The names in `tmp` are absent.
+    pub fn crash(self, pick: u64) -> Result<MemDisk, NoMemory>
+        ensures picked { IfOk result (λ d. (names : List (List ℕ))
+            × AreNames (lists_of self.history.files.items self.history.log.items self.calls) names
+            × ((n : List ℕ) → tree_of d.history.files.items d.history.log.items n ≡ picked (lists_of self.history.files.items self.history.log.items self.calls) names pick n)) }
+        ensures image { IfOk result (λ d. IsImage (lists_of self.history.files.items self.history.log.items self.calls) (tree_of d.history.files.items d.history.log.items)) }
+        ensures settled { IfOk result (λ d. Settled (tree_of d.history.files.items d.history.log.items) (lists_of d.history.files.items d.history.log.items d.calls)) }
+        ensures sound { IfOk result (λ d. (d.failing.items ≡ []) × (d.stop_after ≡ None)) }
+    {
+        let names = self.history.names()?;
+        let mut files = Vec::new(self.alloc);
+        let mut left = pick;
+        for name in &names {
+            left = self.pick_value(&mut files, name, left)?;
+        }
+        MemDisk::new(self.alloc, files, Vec::new(self.alloc), None)
+    }
+
+    /// The clock: how many calls there were.
+    pub fn clock(&self) -> u64
+        ensures { result ≡ self.now.calls }
+    {
+        self.calls
+    }
+
+    /// How many calls failed, the disk's own and those of the parts that it took back.
+    pub fn faults(&self) -> u64
+        ensures { result ≡ self.now.faults }
+    {
+        self.faults
+    }
+
+    // Whether the next call fails.
+    fn fails(&self) -> bool
+        ensures { result ≡ fails_at self.now.failing.items self.now.stop_after self.now.calls }
+    {
+        match self.stop_after {
+            Some(last) if last <= self.calls => true,
+            _ => self.failing.contains(&self.calls),
+        }
+    }
+
+    // A call that can't fail and changes no list.
+    fn skip(&mut self)
+        ensures history { self.new.history ≡ self.old.history }
+        ensures faults { self.new.faults ≡ self.old.faults }
+        ensures looked { self.new.looked ≡ self.old.looked }
+        ensures crash { lists_of self.new.history.files.items self.new.history.log.items self.new.calls ≡ lists_of self.old.history.files.items self.old.history.log.items self.old.calls }
+        ensures time { Ticks self.old.calls self.new.calls (lists_of self.old.history.files.items self.old.history.log.items) (lists_of self.new.history.files.items self.new.history.log.items) }
+    {
+        self.calls = next(self.calls);
+    }
+
+    // A call that changes no list.
+    fn tick(&mut self) -> Result<(), DiskErr>
+        ensures history { self.new.history ≡ self.old.history }
+        ensures looked { self.new.looked ≡ self.old.looked }
+        ensures exact { FailsWhere (fails_at self.old.failing.items self.old.stop_after self.old.calls) result }
+        ensures cause { HasCauseWhere IsFault self.old.faults self.new.faults result }
+        ensures crash { lists_of self.new.history.files.items self.new.history.log.items self.new.calls ≡ lists_of self.old.history.files.items self.old.history.log.items self.old.calls }
+        ensures time { Ticks self.old.calls self.new.calls (lists_of self.old.history.files.items self.old.history.log.items) (lists_of self.new.history.files.items self.new.history.log.items) }
+    {
+        let fails = self.fails();
+        self.skip();
+        if fails {
+            self.faults = one_more(self.faults);
+            return Err(DiskErr::Failed);
+        }
+        Ok(())
+    }
+
+    // One more change in the history.
+    fn record(
+        &mut self,
+        name: &Name,
+        value: Option<Vec<u8>>,
+        done: bool,
+        settles: bool,
+    ) -> Result<(), NoMemory>
+        ensures files { self.new.history.files.items ≡ self.old.history.files.items }
+        ensures added { OnOk result (self.new.history.log.items ≡ self.old.history.log.items ++ record { at = self.old.calls; name = name.now; value = value; done = done; settles = settles } ∷ []) }
+        ensures refused { OnErr result (self.new.history.log.items ≡ self.old.history.log.items) }
+        ensures room { OnOk result (self.old.calls + 1 < 2 ^ 64) }
+        ensures calls { Moves self.old.calls self.new.calls }
+        ensures faults { self.new.faults ≡ self.old.faults }
+        ensures looked { self.new.looked ≡ self.old.looked }
+    {
+        let at = self.calls;
+        self.calls = next(at);
+        if at == u64::MAX {
+            return Err(NoMemory);
+        }
+        let name = name.try_clone(self.alloc)?;
+        self.history.add(Change {
+            at,
+            name,
+            value,
+            done,
+            settles,
+        })
+    }
+
+    // A call that changes the list of a name.
+    fn note(&mut self, name: &Name, value: Option<Vec<u8>>, settles: bool) -> Result<(), DiskErr>
+        ensures files { self.new.history.files.items ≡ self.old.history.files.items }
+        ensures log { Noted result self.old.calls name.now value settles self.old.history.log.items self.new.history.log.items }
+        ensures room { After result (self.old.calls + 1 < 2 ^ 64) (self.old.calls + 1 < 2 ^ 64) (Unit {0}) }
+        ensures looked { self.new.looked ≡ self.old.looked }
+        ensures exact { FailsWhere (fails_at self.old.failing.items self.old.stop_after self.old.calls) result }
+        ensures cause { HasCauseWhere IsFault self.old.faults self.new.faults result }
+        ensures calls { Moves self.old.calls self.new.calls }
+    {
+        let fails = self.fails();
+        match self.record(name, value, !fails, settles) {
+            Ok(()) => {
+                if fails {
+                    self.faults = one_more(self.faults);
+                    return Err(DiskErr::Failed);
+                }
+                Ok(())
+            }
+            Err(NoMemory) => Err(DiskErr::NoMemory),
+        }
+    }
+
+    // Gives the name a value.
+    fn put(&mut self, name: &Name, value: Option<Vec<u8>>) -> Result<(), DiskErr>
+        ensures tree { Puts result name.now (value_of value) (tree_of self.old.history.files.items self.old.history.log.items) (tree_of self.new.history.files.items self.new.history.log.items) }
+        ensures looked { self.new.looked ≡ self.old.looked }
+        ensures exact { FailsWhere (fails_at self.old.failing.items self.old.stop_after self.old.calls) result }
+        ensures cause { HasCauseWhere IsFault self.old.faults self.new.faults result }
+        ensures crash { Joins result name.now (value_of value) (lists_of self.old.history.files.items self.old.history.log.items self.old.calls) (lists_of self.new.history.files.items self.new.history.log.items self.new.calls) }
+        ensures time { Ticks self.old.calls self.new.calls (lists_of self.old.history.files.items self.old.history.log.items) (lists_of self.new.history.files.items self.new.history.log.items) }
+    {
+        self.note(name, value, false)
+    }
+
+    // Leaves the present value alone in the name's list.
+    fn settle(&mut self, name: &Name) -> Result<(), DiskErr>
+        ensures tree { tree_of self.new.history.files.items self.new.history.log.items ≡ tree_of self.old.history.files.items self.old.history.log.items }
+        ensures looked { self.new.looked ≡ self.old.looked }
+        ensures exact { FailsWhere (fails_at self.old.failing.items self.old.stop_after self.old.calls) result }
+        ensures cause { HasCauseWhere IsFault self.old.faults self.new.faults result }
+        ensures crash { Settles result name.now (tree_of self.old.history.files.items self.old.history.log.items name.now) (lists_of self.old.history.files.items self.old.history.log.items self.old.calls) (lists_of self.new.history.files.items self.new.history.log.items self.new.calls) }
+        ensures time { Ticks self.old.calls self.new.calls (lists_of self.old.history.files.items self.old.history.log.items) (lists_of self.new.history.files.items self.new.history.log.items) }
+    {
+        self.note(name, None, true)
+    }
+}
+
+impl Disk for MemDisk {
+    ghost use Rattle.std.specs.Prelude.{Some};
+    ghost use Rattle.disk_model.specs.Past.{tree_of, lists_of, fails_at};
+    ghost use Rattle.disk_model.specs.PastLaws.{present_of};
+
+    type Sealed = MemSealed;
+
+    type Writer = MemWriter;
+
+    type Reader = MemReader;
+
+    ghost told = { Unit {0} };
+
+    ghost tree = { λ d. tree_of d.history.files.items d.history.log.items };
+
+    ghost faults = { λ d. d.faults };
+
+    ghost clock = { λ d. d.calls };
+
+    ghost lists = { λ d. lists_of d.history.files.items d.history.log.items };
+
+    ghost plan = { λ d. Some (fails_at d.failing.items d.stop_after d.calls) };
+
+    ghost last_look = { λ d. d.looked };
+
+    ghost writers_tell = { λ told. told };
+
+    ghost readers_tell = { λ told. told };
+
+    ghost present = { λ d told n. present_of d.history.files.items d.history.log.items d.calls n d.before };
+
+    fn temp(&mut self) -> Result<MemWriter, DiskErr> {
+        self.tick()?;
+        let part = self.writers;
+        self.writers = next(part);
+        match calls_of(self.alloc, &self.fail_writes, part) {
+            Ok(failing) => Ok(MemWriter::new(self.alloc, failing)),
+            Err(NoMemory) => Err(DiskErr::NoMemory),
+        }
+    }
+
+    fn install(&mut self, file: MemSealed, name: &Name) -> Result<(), DiskErr> {
+        self.put(name, Some(file.bytes))
+    }
+
+    fn discard(&mut self, _file: MemSealed) {
+        self.skip();
+    }
+
+    fn give_up(&mut self, file: MemWriter) {
+        self.skip();
+        self.faults = with_part(self.faults, file.faults());
+    }
+
+    fn end_reader(&mut self, file: MemReader) {
+        self.skip();
+        self.faults = with_part(self.faults, file.faults());
+    }
+
+    fn sync(&mut self, name: &Name) -> Result<(), DiskErr> {
+        self.settle(name)
+    }
+
+    fn remove(&mut self, name: &Name) -> Result<bool, DiskErr> {
+        let there = self.history.find(name).is_some();
+        self.put(name, None)?;
+        Ok(there)
+    }
+
+    fn read_small(&mut self, name: &Name) -> Result<Option<Vec<u8>>, DiskErr> {
+        self.tick()?;
+        match small_copy(self.alloc, self.history.find(name)) {
+            Ok(found) => {
+                self.looked = len_of(&found);
+                Ok(found)
+            }
+            Err(NoMemory) => Err(DiskErr::NoMemory),
+        }
+    }
+
+    fn open_file(&mut self, name: &Name) -> Result<Option<MemReader>, DiskErr> {
+        self.tick()?;
+        let part = self.readers;
+        self.readers = next(part);
+        let Ok(failing) = calls_of(self.alloc, &self.fail_reads, part) else {
+            return Err(DiskErr::NoMemory);
+        };
+        match self.history.find(name) {
+            None => {
+                self.looked = None;
+                Ok(None)
+            }
+            Some(bytes) => match MemReader::new(self.alloc, bytes, failing) {
+                Ok(reader) => {
+                    self.looked = Some(reader.len());
+                    Ok(Some(reader))
+                }
+                Err(NoMemory) => Err(DiskErr::NoMemory),
+            },
+        }
+    }
+
+    fn list(&mut self, prefix: &Name) -> Result<Vec<Name>, DiskErr> {
+        self.tick()?;
+        match self.history.list(prefix) {
+            Ok(names) => Ok(names),
+            Err(NoMemory) => Err(DiskErr::NoMemory),
+        }
+    }
+}

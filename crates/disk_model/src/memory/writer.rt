@@ -1,0 +1,97 @@
+ghost use Rattle.std.specs.Prelude.{◌≡◌, ◌==◌, ◌≤◌, [], true};
+ghost use Rattle.std.specs.List.{list_any};
+ghost use Rattle.nx_io.specs.Causes.{Rose};
+
+use crate::disk_err::DiskErr;
+use crate::memory::count::{next, one_more};
+use crate::writer::Writer;
+use std::alloc::Global;
+
+/// The bytes of a sealed file.
+#[derive(Debug, Drop)]
+pub struct MemSealed {
+    pub bytes: Vec<u8>,
+}
+
+/// A file in memory that is being written.
+#[derive(Drop)]
+pub struct MemWriter {
+    alloc: Global,
+    bytes: Vec<u8>,
+    calls: u64,
+    failing: Vec<u64>,
+    faults: u64,
+}
+
+impl MemWriter {
+    /// An empty file, of which the calls with these numbers fail.
+    pub fn new(alloc: Global, failing: Vec<u64>) -> MemWriter
+        ensures empty { result.bytes.items ≡ [] }
+        ensures sound { result.faults ≡ 0 }
+        ensures calls { result.calls ≡ 0 }
+        ensures failing { result.failing.items ≡ failing.items }
+    {
+        MemWriter {
+            alloc,
+            bytes: Vec::new(alloc),
+            calls: 0,
+            failing,
+            faults: 0,
+        }
+    }
+
+    pub fn faults(&self) -> u64
+        ensures { result ≡ self.now.faults }
+    {
+        self.faults
+    }
+
+    // Whether this call fails. The count rises with it.
+    fn fails(&mut self) -> bool
+        ensures bytes { self.new.bytes.items ≡ self.old.bytes.items }
+        ensures listed { result ≡ list_any (λ n. n == self.old.calls) self.old.failing.items }
+        ensures rose { result ≡ true → Rose self.old.faults self.new.faults }
+        ensures later { self.old.faults ≤ self.new.faults }
+    {
+        let fails = self.failing.contains(&self.calls);
+        self.calls = next(self.calls);
+        if fails {
+            self.faults = one_more(self.faults);
+        }
+        fails
+    }
+}
+
+impl Writer for MemWriter {
+    type Sealed = MemSealed;
+
+    ghost told = { Unit {0} };
+
+    ghost written = { λ w. w.bytes.items };
+
+    ghost content = { λ s. s.bytes.items };
+
+    ghost faults = { λ w. w.faults };
+
+    fn write(&mut self, part: &[u8]) -> Result<(), DiskErr> {
+        if self.fails() {
+            return Err(DiskErr::Failed);
+        }
+        if self.bytes.extend_from_slice(part).is_err() {
+            return Err(DiskErr::NoMemory);
+        }
+        Ok(())
+    }
+
+    fn seal(&mut self) -> Result<MemSealed, DiskErr> {
+        if self.fails() {
+            return Err(DiskErr::Failed);
+        }
+        match Vec::from_slice(self.alloc, &self.bytes) {
+            Ok(bytes) => Ok(MemSealed { bytes }),
+            Err(_) => Err(DiskErr::NoMemory),
+        }
+    }
+
+    fn abort(self) {}
+}

@@ -1,0 +1,37 @@
+ghost use Rattle.std.specs.Prelude.{◌≡◌, ◌<◌, ◌≤◌, ◌++◌, ℕ, Bool, List, [], length, take, drop, IfOk, OnErr};
+ghost use Rattle.nx_io.specs.Causes.{HasCause};
+ghost use Rattle.nx_io.specs.Reads.{TellsEnd};
+
+use nx_io::Failed;
+
+/// A file that is being read. It belongs to its owner, and its calls don't move the clock of the disk.
+pub trait Reader: Drop {
+    /// Whether contracts know what files hold.
+    ghost told: { Type 0 };
+
+    /// The bytes that are left.
+    ghost left: { Self → List ℕ };
+
+    /// How many bytes the file had when it was opened. A file that doesn't tell its bytes has this nonetheless.
+    ghost size: { Self → ℕ };
+
+    /// Whether its last answer was the end of the file, also where the bytes aren't told.
+    ghost ended: { Self → Bool };
+
+    /// How often it failed.
+    ghost faults: { Self → ℕ };
+
+    /// Writes the next bytes into the front of `buf` and returns how many. 0 for a buffer that isn't empty is the end.
+    fn read(&mut self, buf: &mut [u8]) -> Result<usize, Failed>
+        ensures within { IfOk result (λ n. n ≤ length buf.old) }
+        ensures bytes { told → IfOk result (λ n. buf.new ≡ take n (left self.old) ++ drop n buf.old) }
+        ensures left { told → IfOk result (λ n. left self.new ≡ drop n (left self.old)) }
+        ensures all { told → IfOk result (λ n. n ≡ 0 → 0 < length buf.old → left self.old ≡ []) }
+        ensures failed { told → OnErr result (left self.new ≡ left self.old) }
+        ensures end { TellsEnd (ended self.old) (ended self.new) result buf.new }
+        ensures size { size self.new ≡ size self.old }
+        ensures cause { HasCause (faults self.old) (faults self.new) result };
+
+    fn len(&self) -> u64
+        ensures { result ≡ size self.now };
+}

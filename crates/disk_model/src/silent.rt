@@ -1,0 +1,162 @@
+//! A disk that tells nothing, as the adapter of a real folder does: it shows that the traits can be met without knowing
+//! what the files hold.
+use crate::disk::Disk;
+use crate::disk_err::DiskErr;
+use crate::memory::count::{one_more, with_part};
+use crate::reader::Reader;
+use crate::writer::Writer;
+use nx_base::Name;
+use nx_io::Failed;
+use std::alloc::Global;
+
+#[derive(Drop)]
+pub struct SilentDisk {
+    pub alloc: Global,
+    pub faults: u64,
+    pub looked: Option<u64>,
+}
+
+#[derive(Drop)]
+pub struct SilentPart {
+    pub faults: u64,
+    pub len: u64,
+    pub ended: bool,
+}
+
+impl Writer for SilentPart {
+    ghost use Rattle.std.specs.Prelude.{[]};
+
+    type Sealed = SilentPart;
+
+    ghost told = { ⊥ };
+
+    ghost written = { λ w. [] };
+
+    ghost content = { λ w. [] };
+
+    ghost faults = { λ w. w.faults };
+
+    fn write(&mut self, part: &[u8]) -> Result<(), DiskErr> {
+        if part.is_empty() {
+            return Ok(());
+        }
+        self.faults = one_more(self.faults);
+        Err(DiskErr::Failed)
+    }
+
+    fn seal(&mut self) -> Result<SilentPart, DiskErr> {
+        Ok(SilentPart {
+            faults: 0,
+            len: 0,
+            ended: false,
+        })
+    }
+
+    fn abort(self) {}
+}
+
+impl Reader for SilentPart {
+    ghost use Rattle.std.specs.Prelude.{[]};
+
+    ghost told = { ⊥ };
+
+    ghost left = { λ r. [] };
+
+    ghost size = { λ r. r.len };
+
+    ghost ended = { λ r. r.ended };
+
+    ghost faults = { λ r. r.faults };
+
+    fn read(&mut self, buf: &mut [u8]) -> Result<usize, Failed> {
+        if buf.is_empty() {
+            self.faults = one_more(self.faults);
+            return Err(Failed);
+        }
+        self.ended = true;
+        Ok(0)
+    }
+
+    fn len(&self) -> u64 {
+        self.len
+    }
+}
+
+impl Disk for SilentDisk {
+    ghost use Rattle.std.specs.Prelude.{[], None};
+
+    type Sealed = SilentPart;
+
+    type Writer = SilentPart;
+
+    type Reader = SilentPart;
+
+    ghost told = { ⊥ };
+
+    ghost tree = { λ d n. None };
+
+    ghost faults = { λ d. d.faults };
+
+    ghost clock = { λ d. 0 };
+
+    ghost lists = { λ d t n. [] };
+
+    ghost plan = { λ d. None };
+
+    ghost last_look = { λ d. d.looked };
+
+    ghost writers_tell = { λ told. told };
+
+    ghost readers_tell = { λ told. told };
+
+    ghost present = { λ d told n. absurd told };
+
+    fn temp(&mut self) -> Result<SilentPart, DiskErr> {
+        Ok(SilentPart {
+            faults: 0,
+            len: 0,
+            ended: false,
+        })
+    }
+
+    fn install(&mut self, _file: SilentPart, _name: &Name) -> Result<(), DiskErr> {
+        Ok(())
+    }
+
+    fn discard(&mut self, _file: SilentPart) {}
+
+    fn give_up(&mut self, file: SilentPart) {
+        self.faults = with_part(self.faults, file.faults);
+    }
+
+    fn end_reader(&mut self, file: SilentPart) {
+        self.faults = with_part(self.faults, file.faults);
+    }
+
+    fn sync(&mut self, _name: &Name) -> Result<(), DiskErr> {
+        self.faults = one_more(self.faults);
+        Err(DiskErr::Failed)
+    }
+
+    fn remove(&mut self, _name: &Name) -> Result<bool, DiskErr> {
+        Ok(true)
+    }
+
+    fn read_small(&mut self, _name: &Name) -> Result<Option<Vec<u8>>, DiskErr> {
+        self.looked = None;
+        Ok(None)
+    }
+
+    fn open_file(&mut self, _name: &Name) -> Result<Option<SilentPart>, DiskErr> {
+        self.looked = Some(3);
+        Ok(Some(SilentPart {
+            faults: 0,
+            len: 3,
+            ended: false,
+        }))
+    }
+
+    fn list(&mut self, _prefix: &Name) -> Result<Vec<Name>, DiskErr> {
+        Ok(Vec::new(self.alloc))
+    }
+}

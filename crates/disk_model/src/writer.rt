@@ -1,0 +1,35 @@
+ghost use Rattle.std.specs.Prelude.{◌≡◌, ◌++◌, ℕ, List, IfOk, OnOk};
+ghost use Rattle.nx_io.specs.Causes.{HasCauseWhere};
+ghost use Rattle.disk_model.specs.Disk.{IsFault};
+
+use crate::disk_err::DiskErr;
+
+/// A temporary file that is being written. It belongs to its owner, and its calls don't move the clock of the disk.
+pub trait Writer: Drop {
+    type Sealed: Drop;
+
+    /// Whether contracts know what files hold.
+    ghost told: { Type 0 };
+
+    /// The bytes written so far.
+    ghost written: { Self → List ℕ };
+
+    /// The bytes of a sealed file.
+    ghost content: { Self.Sealed → List ℕ };
+
+    /// How often it failed.
+    ghost faults: { Self → ℕ };
+
+    /// Appends the whole part.
+    fn write(&mut self, part: &[u8]) -> Result<(), DiskErr>
+        ensures written { told → OnOk result (written self.new ≡ written self.old ++ part.now) }
+        ensures cause { HasCauseWhere IsFault (faults self.old) (faults self.new) result };
+
+    /// Writes the file through to the device. Only a sealed file can be installed.
+    fn seal(&mut self) -> Result<Self::Sealed, DiskErr>
+        ensures content { told → IfOk result (λ file. content file ≡ written self.old) }
+        ensures cause { HasCauseWhere IsFault (faults self.old) (faults self.new) result };
+
+    /// Lets the writer go.
+    fn abort(self);
+}
