@@ -29,18 +29,30 @@ use std::random::RandomSource;
 use std::time::{SystemTime, UNIX_EPOCH};
 use std::{env, io};
 
-/// The moment of this run: milliseconds since 1970, and a random word.
-fn moment(rt: &HostRuntime) -> io::Result<Moment> {
-    let mut random = [0; 10];
-    rt.fill_bytes(&mut random)?;
-    let now = match SystemTime::now(rt)?.duration_since(UNIX_EPOCH) {
+/// Milliseconds since 1970. A clock that can't be read, or that stands before 1970, says 0.
+fn now(rt: &HostRuntime) -> u64 {
+    let Ok(time) = SystemTime::now(rt) else {
+        return 0;
+    };
+    match time.duration_since(UNIX_EPOCH) {
         Ok(passed) => passed
             .as_secs()
             .saturating_mul(1000)
             .saturating_add(u64::from(passed.subsec_millis())),
         Err(_) => 0,
-    };
-    Ok(Moment { now, random })
+    }
+}
+
+/// The moment of this run, with a random word. A source of random bytes that can't be read gives zeros.
+fn moment(rt: &HostRuntime) -> Moment {
+    let mut random = [0; 10];
+    if rt.fill_bytes(&mut random).is_err() {
+        random = [0; 10];
+    }
+    Moment {
+        now: now(rt),
+        random,
+    }
 }
 
 /// The words behind the program's name. Words that aren't UTF-8 are none.
@@ -58,7 +70,7 @@ fn main(rt: HostRuntime) -> io::Result<ExitCode> {
         Err(e) if e.kind() == io::ErrorKind::OutOfMemory => return end(&rt, Status::NoMemory),
         Err(_) => return end(&rt, Status::Usage),
     };
-    let moments = [moment(&rt)?];
+    let moments = [moment(&rt)];
     let mut input = RealSource::new(rt.stdin());
     let mut output = RealSink::new(rt.stdout());
     let status = run(rt.alloc(), &words, &mut input, &mut output, &moments);
