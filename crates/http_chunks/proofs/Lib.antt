@@ -1,0 +1,4 @@
+pub mod LineLemmas
+pub mod BodyLemmas
+pub mod StepLemmas
+pub mod OneReading
