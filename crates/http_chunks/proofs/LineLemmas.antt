@@ -91,12 +91,12 @@ pub bad_line-append : (bytes more : List ℕ) → IsBadLine bytes → IsBadLine 
 bad_line-append bytes more bad = elim bad.1 [
   | inl long ↦ (subst HasNoChunkLine (sym (take-append-le line_limit bytes more long)) bad.0, inl (omega (arith, length-append bytes more)))
   | inr never ↦
-    let all : NeverHasChunkLine (bytes ++ more) = λ next. subst HasNoChunkLine (sym (append_assoc bytes more next)) (never (more ++ next)) in (
-      λ line rest reads. all [] line (rest ++ drop line_limit (bytes ++ more)) (
-        reads.0,
-        append-nil (bytes ++ more) ∙ sym (take-append-drop line_limit (bytes ++ more)) ∙ ap (λ (t : List ℕ). t ++ drop line_limit (bytes ++ more)) reads.1
-        ∙ append_assoc (print_chunk_line line) rest (drop line_limit (bytes ++ more)),
-      ),
-      inr all,
-    )
+      let all : NeverHasChunkLine (bytes ++ more) = λ next. subst HasNoChunkLine (sym (append_assoc bytes more next)) (never (more ++ next)) in (
+        λ line rest reads. all [] line (rest ++ drop line_limit (bytes ++ more)) (
+          reads.0,
+          append-nil (bytes ++ more) ∙ sym (take-append-drop line_limit (bytes ++ more)) ∙ ap (λ (t : List ℕ). t ++ drop line_limit (bytes ++ more)) reads.1
+              ∙ append_assoc (print_chunk_line line) rest (drop line_limit (bytes ++ more)),
+        ),
+        inr all,
+      )
 ]

@@ -5,3 +5,4 @@ pub mod Places
 pub mod Room
 pub mod Reading
 pub mod Steps
+pub mod Runs

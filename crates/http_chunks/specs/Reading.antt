@@ -27,3 +27,17 @@ Holds stream (large content) =
     (place : Place) × (rest : List ℕ) × Reaches stream place content rest × IsTooLarge place rest (length content)
 Holds stream (cut content) =
     (place : Place) × (rest : List ℕ) × Reaches stream place content rest × IsOpen place rest
+
+-- more bytes may change what the stream ends in, and nothing else
+abbrev pub IsSettled : Reading → Type 0
+IsSettled (whole content rest) = Unit {0}
+IsSettled (bad content at) = Unit {0}
+IsSettled (large content) = Unit {0}
+IsSettled (cut content) = ⊥
+
+-- the reading, where more bytes follow
+abbrev pub followed_by : List ℕ → Reading → Reading
+followed_by more (whole content rest) = whole content (rest ++ more)
+followed_by more (bad content at) = bad content at
+followed_by more (large content) = large content
+followed_by more (cut content) = cut content

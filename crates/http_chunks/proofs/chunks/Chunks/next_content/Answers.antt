@@ -31,18 +31,18 @@ returns-clause-says c text content took =
     record {
       place = elim c.if-rest-eq0.branch [
         | then-rest-eq0 w ↦
-          subst (λ (p : Place). ReachesWith p (text ++ take n bytes) (content ++ take n bytes)) (sym w.self-is)
-          (subst (λ (left : ℕ). IsPart left (text ++ take n bytes) (content ++ take n bytes)) w.if-rest-eq0.true part)
+            subst (λ (p : Place). ReachesWith p (text ++ take n bytes) (content ++ take n bytes)) (sym w.self-is)
+            (subst (λ (left : ℕ). IsPart left (text ++ take n bytes) (content ++ take n bytes)) w.if-rest-eq0.true part)
         | else-rest-eq0 w ↦
-          subst (λ (p : Place). ReachesWith p (text ++ take n bytes) (content ++ take n bytes)) (sym w.self-is) (part, omega (arith, w.if-rest-eq0.false))
+            subst (λ (p : Place). ReachesWith p (text ++ take n bytes) (content ++ take n bytes)) (sym w.self-is) (part, omega (arith, w.if-rest-eq0.false))
       ];
       at = taken_more text bytes c.args.self.now.at n took.at within;
       total = elim c.if-rest-eq0.branch [
         | then-rest-eq0 w ↦
-          subst (λ (p : Place). c.args.self.now.total ≡ length (content ++ take n bytes) + left_at p) (sym w.self-is)
-          (omega (arith, total, w.if-rest-eq0.true, length-append content (take n bytes), length-take-le n bytes within))
+            subst (λ (p : Place). c.args.self.now.total ≡ length (content ++ take n bytes) + left_at p) (sym w.self-is)
+            (omega (arith, total, w.if-rest-eq0.true, length-append content (take n bytes), length-take-le n bytes within))
         | else-rest-eq0 w ↦
-          subst (λ (p : Place). c.args.self.now.total ≡ length (content ++ take n bytes) + left_at p) (sym w.self-is)
-          (omega (arith, total, length-append content (take n bytes), length-take-le n bytes within))
+            subst (λ (p : Place). c.args.self.now.total ≡ length (content ++ take n bytes) + left_at p) (sym w.self-is)
+            (omega (arith, total, length-append content (take n bytes), length-take-le n bytes within))
       ];
     }

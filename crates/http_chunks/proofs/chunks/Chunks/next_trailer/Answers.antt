@@ -23,15 +23,15 @@ returns-clause-says c text content took =
     record {
       place = elim c.if-length-eq2.branch [
         | then-length-eq2 w ↦
-          let one : last ≡ 1 = omega (arith, w.if-length-eq2.true) in
-          let ret : get_or bytes 0 0 ≡ 13 = subst (λ (k : ℕ). get_or bytes (k - 1) 0 ≡ 13) one c.if-bytes-last-ne13.false in
-          let body = last_trailer text content bytes taken had (subst (IsFirstFeed bytes) one lf) ret (omega arith) in
-          subst (λ (p : Place). ReachesWith p (text ++ take n bytes) content) (sym w.self-is)
-          (subst (λ (k : ℕ). IsBody (text ++ take k bytes) content) (sym w.if-length-eq2.true) body)
+            let one : last ≡ 1 = omega (arith, w.if-length-eq2.true) in
+            let ret : get_or bytes 0 0 ≡ 13 = subst (λ (k : ℕ). get_or bytes (k - 1) 0 ≡ 13) one c.if-bytes-last-ne13.false in
+            let body = last_trailer text content bytes taken had (subst (IsFirstFeed bytes) one lf) ret (omega arith) in
+            subst (λ (p : Place). ReachesWith p (text ++ take n bytes) content) (sym w.self-is)
+            (subst (λ (k : ℕ). IsBody (text ++ take k bytes) content) (sym w.if-length-eq2.true) body)
         | else-length-eq2 w ↦
-          let few = c.if-last-eq0.false in
-          subst (λ (p : Place). ReachesWith p (text ++ take n bytes) content) (sym w.self-is)
-          (one_trailer text content bytes taken last had lf (omega (arith, w.if-length-eq2.false)) c.if-bytes-last-ne13.false (omega arith))
+            let few = c.if-last-eq0.false in
+            subst (λ (p : Place). ReachesWith p (text ++ take n bytes) content) (sym w.self-is)
+            (one_trailer text content bytes taken last had lf (omega (arith, w.if-length-eq2.false)) c.if-bytes-last-ne13.false (omega arith))
       ];
       at = taken_more text bytes c.args.self.now.at n took.at within;
       total = elim c.if-length-eq2.branch [
