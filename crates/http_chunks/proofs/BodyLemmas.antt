@@ -1,10 +1,10 @@
 -- What was taken, one step on.
-use Rattle.std.proofs.Common.{◌≡◌, ◌≢◌, ℕ, ◌+◌, ◌-◌, ◌<◌, ◌≤◌, ◌⊎◌, List, [], ◌∷◌, ◌++◌, length, get_or, take, drop, refl, sym, ap, subst, ◌∙◌, arith, inl, inr, append_assoc, length-append}
+use Rattle.std.proofs.Common.{◌≡◌, ℕ, ◌+◌, ◌-◌, ◌<◌, ◌≤◌, List, [], ◌∷◌, ◌++◌, length, get_or, take, drop, refl, sym, ap, subst, ◌∙◌, arith, append_assoc, length-append}
 use Rattle.std.specs.List.{flat_map, AllByRecursion}
-use Rattle.std.proofs.lemmas.List.{append-nil, take_at, take_more, length-take-le, get_or-take, take-append-drop}
+use Rattle.std.proofs.lemmas.List.{append-nil, take_at, take_more, length-take-le, get_or-take}
 use Rattle.std.proofs.lemmas.List.Concat.{flat_map-append}
 use Rattle.httparse.specs.Ascii.{crlf_bytes}
-use Rattle.httparse.specs.Grammar.{ChunkLine, print_chunk_line, chunk_size, print_extension, print_end, crlf}
+use Rattle.httparse.specs.Grammar.{ChunkLine, print_chunk_line, chunk_size}
 use Rattle.http_chunks.specs.Lines.{HasLine}
 use Rattle.http_chunks.specs.Trailers.{IsFirstFeed, IsTrailer, lines_of}
 use Rattle.http_chunks.specs.Body.{Chunk, IsChunk, print_chunk, text_of, content_of, AreChunks, IsPart, IsLast, IsBody}

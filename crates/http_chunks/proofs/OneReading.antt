@@ -1,19 +1,17 @@
 -- A stream has one reading. A reading is whole chunks and then a tail, and each chunk in front, and the tail, is the only one
 -- that the bytes have.
-use Rattle.std.proofs.Common.{◌≡◌, ◌≢◌, ℕ, zero, suc, ◌+◌, ◌-◌, ◌<◌, ◌≤◌, ◌⊎◌, List, [], ◌∷◌, ◌++◌, length, get_or, take, drop, refl, sym, ap, subst, ◌∙◌, arith, inl, inr, append_assoc, length-append}
-use Rattle.std.specs.List.{flat_map, AllByRecursion}
-use Rattle.std.proofs.lemmas.Bool.{cases_lt}
-use Rattle.std.proofs.lemmas.List.{take_at, drop_at, append-nil, append_cancel_right, get_or_append_left, get_or-append-add}
+use Rattle.std.proofs.Common.{◌≡◌, ℕ, ◌+◌, ◌≤◌, List, [], ◌∷◌, ◌++◌, length, drop, refl, sym, ap, subst, ◌∙◌, arith, inl, inr, append_assoc, length-append}
+use Rattle.std.specs.List.{AllByRecursion}
+use Rattle.std.proofs.lemmas.List.{append-nil, append_cancel_right}
 use Rattle.httparse.specs.Ascii.{crlf_bytes}
 use Rattle.httparse.specs.Grammar.{ChunkLine, print_chunk_line, chunk_size}
 use Rattle.http_chunks.specs.declared.place.Place.{Place}
 use Rattle.http_chunks.specs.declared.place.Place.TheVariants.{Line, Inside, After, Trailer, Done}
-use Rattle.http_chunks.specs.Lines.{HasLine, IsBadLine, IsOpenLine}
-use Rattle.http_chunks.specs.Trailers.{trailer_limit, IsFirstFeed, HasNoFeed, IsTrailer, IsBare, IsBadTrailer, IsOpenTrailer, lines_of}
+use Rattle.http_chunks.specs.Trailers.{trailer_limit, IsTrailer, lines_of}
 use Rattle.http_chunks.specs.Body.{content_limit, Chunk, IsChunk, print_chunk, text_of, content_of, AreChunks, IsPart, IsLast, IsBody}
-use Rattle.http_chunks.specs.Places.{ReachesWith, IsOpenEnd, IsNoEnd, IsOpen, IsBad, IsTooLarge}
+use Rattle.http_chunks.specs.Places.{IsNoEnd, IsOpen, IsBad, IsTooLarge}
 use Rattle.http_chunks.specs.Reading.{Reading, whole, bad, large, cut, Reaches, Holds}
-use Rattle.http_chunks.proofs.LineLemmas.{line_not_bad, line_not_open, bad_not_open, line_unique}
+use Rattle.http_chunks.proofs.LineLemmas.{line_unique}
 use Rattle.http_chunks.proofs.TailLemmas.{split, Ends, Section, InContent, Behind, Lineless, Tail, line_not_lineless, parts_same, tail_unique}
 
 -- ---- whole chunks in front

@@ -1,19 +1,16 @@
 -- What a step says, by the place.
-use Rattle.std.proofs.Common.{◌≡◌, ℕ, ◌+◌, ◌-◌, ◌<◌, ◌≤◌, List, ◌++◌, length, take, drop, get_or, refl, sym, ap, subst, ◌∙◌, arith, length-append}
+use Rattle.std.proofs.Common.{◌≡◌, ℕ, ◌+◌, ◌<◌, ◌≤◌, List, ◌++◌, length, take, refl, ap, subst, ◌∙◌, arith, length-append}
 use Rattle.std.proofs.lemmas.List.{length-take-le}
-use Rattle.httparse.specs.Ascii.{crlf_bytes}
-use Rattle.httparse.specs.Grammar.{ChunkLine, print_chunk_line, chunk_size}
+use Rattle.httparse.specs.Grammar.{ChunkLine, chunk_size}
 use Rattle.http_chunks.specs.declared.place.Place.{Place}
-use Rattle.http_chunks.specs.declared.place.Place.TheVariants.{Line, Inside, After, Trailer, Done}
+use Rattle.http_chunks.specs.declared.place.Place.TheVariants.{Line}
 use Rattle.http_chunks.specs.declared.chunks.Chunks.{Chunks}
 use Rattle.http_chunks.specs.Lines.{HasLine}
-use Rattle.http_chunks.specs.Trailers.{IsFirstFeed}
-use Rattle.http_chunks.specs.Body.{AreChunks, IsPart, IsLast, IsBody, content_limit}
-use Rattle.http_chunks.specs.Places.{ReachesWith, IsBad, IsTooLarge}
+use Rattle.http_chunks.specs.Body.{AreChunks, content_limit}
+use Rattle.http_chunks.specs.Places.{ReachesWith, IsBad}
 use Rattle.http_chunks.specs.Room.{left_at}
 use Rattle.http_chunks.specs.Reading.{Holds, bad, large}
 use Rattle.http_chunks.specs.Steps.{Took}
-use Rattle.http_chunks.proofs.BodyLemmas.{into_chunk, into_trailer, whole_chunk, two_is, more_content, one_trailer, last_trailer}
 
 -- what was taken, at a place that is known
 pub place_of : (chunks : Chunks) (place : Place) (text content : List ℕ) → chunks.place ≡ place → Took chunks text content → ReachesWith place text content

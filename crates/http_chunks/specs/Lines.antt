@@ -1,7 +1,7 @@
 -- The size line of a chunk: 1 to 16 hexadecimal digits, spaces and tabs, and an extension that is dropped (RFC 9112, section
 -- 7.1), of at most 1,024 bytes (this project's own limit).
 use Rattle.std.specs.Prelude.{◌≡◌, ℕ, ◌<◌, ◌≤◌, ◌⊎◌, List, ◌++◌, length, take, drop}
-use Rattle.httparse.specs.Grammar.{ChunkLine, IsChunkLine, ReadsChunkLine, HasNoChunkLine, NeverHasChunkLine, MayBecomeChunkLine, print_chunk_line, chunk_size}
+use Rattle.httparse.specs.Grammar.{ChunkLine, IsChunkLine, HasNoChunkLine, NeverHasChunkLine, MayBecomeChunkLine, print_chunk_line, chunk_size}
 use Rattle.http_chunks.specs.declared.size_line.LineStep.{LineStep}
 use Rattle.http_chunks.specs.declared.size_line.LineStep.TheVariants.{Line, Need, Bad}
 

@@ -3,8 +3,7 @@ use std::alloc::Global;
 use std::test::Fail;
 
 /// How a text is read that comes in pieces of so many bytes: its content, the last step, and how many bytes were taken.
-fn read(alloc: Global, text: &[u8], piece: usize) -> Result<String, Fail>
-{
+fn read(alloc: Global, text: &[u8], piece: usize) -> Result<String, Fail> {
     let mut chunks = Chunks::new();
     let mut content = String::new(alloc);
     let mut taken = 0;

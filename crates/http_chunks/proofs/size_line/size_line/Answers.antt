@@ -1,5 +1,5 @@
-use Rattle.std.proofs.Common.{ℕ, List, ◌≤◌, take, subst, inl, arith}
-use Rattle.httparse.specs.Grammar.{ChunkLine, HasNoChunkLine, NeverHasChunkLine, MayBecomeChunkLine}
+use Rattle.std.proofs.Common.{ℕ, List, take, subst, inl, arith}
+use Rattle.httparse.specs.Grammar.{HasNoChunkLine, NeverHasChunkLine, MayBecomeChunkLine}
 use Rattle.httparse.specs.Spans.{IsChunkLineAt}
 use Rattle.http_chunks.specs.Lines.{line_limit}
 use Rattle.http_chunks.proofs.LineLemmas.{line_from_front, length-line, bad_from_never, open_from_front}

@@ -1,12 +1,11 @@
-use Rattle.std.proofs.Common.{◌≡◌, ◌++◌, ◌+◌, ◌-◌, ◌≤◌, ◌<◌, ℕ, List, take, length, length-append, subst, sym, arith}
+use Rattle.std.proofs.Common.{◌≡◌, ◌++◌, ◌+◌, ◌-◌, ◌≤◌, ◌<◌, ℕ, take, length, length-append, subst, sym, arith}
 use Rattle.std.proofs.lemmas.Bool.{eqb-false}
 use Rattle.std.proofs.lemmas.List.{length-take-le}
 use Rattle.http_chunks.specs.declared.place.Place.{Place}
-use Rattle.http_chunks.specs.declared.place.Place.TheVariants.{Inside, After}
+use Rattle.http_chunks.specs.declared.place.Place.TheVariants.{Inside}
 use Rattle.http_chunks.specs.Body.{IsPart}
 use Rattle.http_chunks.specs.Places.{ReachesWith}
 use Rattle.http_chunks.specs.Room.{ahead_at, left_at}
-use Rattle.http_chunks.specs.Steps.{Took}
 use Rattle.http_chunks.proofs.BodyLemmas.{more_content}
 use Rattle.http_chunks.proofs.StepLemmas.{place_of, total_of, taken_more}
 use Rattle.http_chunks.proofs.chunks.Chunks.next_content.Goals as goal

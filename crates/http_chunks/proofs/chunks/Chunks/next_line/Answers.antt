@@ -1,5 +1,4 @@
-use Rattle.std.proofs.Common.{◌≡◌, ◌≤◌, ◌<◌, ◌++◌, ◌+◌, ℕ, List, take, drop, length, subst, sym, arith}
-use Rattle.httparse.specs.Grammar.{print_chunk_line, chunk_size}
+use Rattle.std.proofs.Common.{◌++◌, ℕ, take, subst, sym, arith}
 use Rattle.http_chunks.specs.declared.place.Place.TheVariants.{Line}
 use Rattle.http_chunks.specs.Body.{IsPart}
 use Rattle.http_chunks.proofs.BodyLemmas.{into_chunk, into_trailer}

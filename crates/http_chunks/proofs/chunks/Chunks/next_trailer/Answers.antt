@@ -1,12 +1,12 @@
-use Rattle.std.proofs.Common.{◌≡◌, ◌≢◌, ◌≤◌, ◌<◌, ◌++◌, ◌+◌, ◌-◌, ◌⊎◌, ◌∙◌, ℕ, List, take, length, get_or, subst, ap, sym, arith, inl, inr}
+use Rattle.std.proofs.Common.{◌≡◌, ◌≤◌, ◌++◌, ◌+◌, ◌-◌, ℕ, take, length, get_or, subst, sym, arith}
 use Rattle.http_chunks.specs.declared.place.Place.{Place}
-use Rattle.http_chunks.specs.declared.place.Place.TheVariants.{Trailer, Done}
-use Rattle.http_chunks.specs.Trailers.{IsFirstFeed, IsBadTrailer}
+use Rattle.http_chunks.specs.declared.place.Place.TheVariants.{Trailer}
+use Rattle.http_chunks.specs.Trailers.{IsFirstFeed}
 use Rattle.http_chunks.specs.Body.{IsBody}
 use Rattle.http_chunks.specs.Places.{ReachesWith}
 use Rattle.http_chunks.specs.Room.{left_at}
 use Rattle.http_chunks.proofs.BodyLemmas.{one_trailer, last_trailer}
-use Rattle.http_chunks.proofs.StepLemmas.{place_of, total_of, taken_more, refused_at}
+use Rattle.http_chunks.proofs.StepLemmas.{place_of, total_of, taken_more}
 use Rattle.http_chunks.proofs.chunks.Chunks.next_trailer.Goals as goal
 use Rattle.http_chunks.proofs.chunks.Chunks.next_trailer.Goals.{then-length-eq2, else-length-eq2}
 
