@@ -1,0 +1,6 @@
+pub mod LineLemmas
+pub mod BodyLemmas
+pub mod StepLemmas
+pub mod TailLemmas
+pub mod OneReading
+pub mod MoreBytes
