@@ -6,9 +6,11 @@ ghost use Rattle.blob_paths.specs.Hash.{java_hash_of, tier_of};
 pub fn java_hash(text: &[u8]) -> i32
     ensures { result ≡ java_hash_of text.now }
 {
-    text.iter().fold(0, |hash: i32, byte| {
-        hash.wrapping_mul(31).wrapping_add(i32::from(*byte))
-    })
+    let mut hash = 0i32;
+    for byte in text {
+        hash = hash.wrapping_mul(31).wrapping_add(i32::from(*byte));
+    }
+    hash
 }
 
 /// The volume, 1 to 43, and the chapter, 1 to 47, of a text. It takes no memory.
@@ -18,5 +20,8 @@ pub fn tier(text: &[u8]) -> (u32, u32)
     ensures chapter { (1 ≤ result.1) × (result.1 ≤ 47) }
 {
     let hash = java_hash(text);
-    ((hash % 43).unsigned_abs() + 1, (hash % 47).unsigned_abs() + 1)
+    (
+        (hash % 43).unsigned_abs() + 1,
+        (hash % 47).unsigned_abs() + 1,
+    )
 }

@@ -13,6 +13,8 @@ mod ending;
 mod hash;
 mod laws;
 mod place;
+#[cfg(test)]
+mod tests;
 
 pub use ending::Ending;
 pub use hash::{java_hash, tier};

@@ -1,9 +1,12 @@
 //! The place of a blob and the names of its files, both ways.
 ghost use Rattle.std.specs.Prelude.{◌≡◌, ◌≢◌, ◌↔◌, ℕ, ◌+◌, ◌<◌, ◌≤◌, List, ◌++◌, length, Ok, IsTrue, IfOk, IfSome, IfNone};
+ghost use Rattle.std.specs.Str.{IsUtf8};
+ghost use Rattle.nx_base.specs.Names.{store_name_of};
 ghost use Rattle.nx_base.specs.Paths.{file_name_of};
 ghost use Rattle.blob_paths.specs.Hash.{tier_of};
 ghost use Rattle.blob_paths.specs.Ids.{IsId};
 ghost use Rattle.blob_paths.specs.Places.{two_digits, folders_of, HasRoom, volume_place, place_of, file_at};
+ghost use Rattle.blob_paths.specs.Parts.{AreParts};
 ghost use Rattle.blob_paths.specs.declared.ending.Ending.{Ending};
 
 use crate::ending::Ending;
@@ -52,7 +55,8 @@ fn joined(alloc: Global, front: &[u8], back: &[u8]) -> Result<Vec<u8>, NoMemory>
 
 /// The name that a text is.
 fn named(alloc: Global, text: &[u8]) -> Result<Name, NoMemory>
-    requires { file_name_of text.now ≡ Ok text.now }
+    requires utf8 { IsUtf8 text.now }
+    requires name { file_name_of text.now ≡ Ok text.now }
     ensures { IfOk result (λ name. name ≡ text.now) }
 {
     let Ok(text) = from_utf8(text) else {
@@ -65,6 +69,16 @@ fn named(alloc: Global, text: &[u8]) -> Result<Name, NoMemory>
     }
 }
 
+/// The text of the place of an id in a store.
+fn place_text(alloc: Global, store: &StoreName, id: &BlobId) -> Result<Vec<u8>, NoMemory>
+    ensures text { IfOk result (λ text. text.items ≡ volume_place store.now id.now) }
+    ensures store { store_name_of store.now ≡ Ok store.now }
+{
+    let id = id.text();
+    let front = joined(alloc, store.as_bytes(), folders(&id).as_slice())?;
+    joined(alloc, front.as_slice(), id.as_slice())
+}
+
 /// The place of a blob: the name of each of its files without the ending.
 ///
 /// Today blobs are placed by volume and chapter alone.
@@ -73,9 +87,7 @@ pub fn location(alloc: Global, blob: &BlobRef, layout: Layout) -> Result<Name, N
     ensures place { IfOk result (λ name. name ≡ place_of blob.now) }
     ensures room { IfOk result (λ name. HasRoom name) }
 {
-    let id = blob.id.text();
-    let front = joined(alloc, blob.store.as_bytes(), folders(&id).as_slice())?;
-    let text = joined(alloc, front.as_slice(), id.as_slice())?;
+    let text = place_text(alloc, &blob.store, &blob.id)?;
     named(alloc, text.as_slice())
 }
 
@@ -84,15 +96,43 @@ pub fn file_name(alloc: Global, place: &Name, ending: Ending) -> Result<Name, No
     requires room { HasRoom place.now }
     ensures name { IfOk result (λ name. name ≡ file_at place.now ending) }
 {
-    let text = joined(alloc, place.as_bytes(), ending.text())?;
+    let text = joined(alloc, place.as_str().as_bytes(), ending.text())?;
     named(alloc, text.as_slice())
 }
 
-/// Whether two texts are the same.
-fn same_text(a: &[u8], b: &[u8]) -> bool
-    ensures { IsTrue result ↔ (a.now ≡ b.now) }
+/// The parts of a name that has the length of a file's: what stands before the folders, the folders, the text of the id,
+/// and what stands behind it.
+#[derive(Drop)]
+struct Parts<'a> {
+    front: &'a [u8],
+    folders: &'a [u8],
+    text: &'a [u8],
+    end: &'a [u8],
+}
+
+/// Cuts a name into its parts, the first of which has this length.
+fn cut(name: &[u8], front: usize) -> Parts<'_>
+    requires { front + 60 ≤ length name.now }
+    ensures parts { AreParts name.now result.front.now result.folders.now result.text.now result.end.now }
+    ensures front { length result.front.now ≡ front }
 {
-    a == b
+    let (front, rest) = name.split_at(front);
+    let (folders, rest) = rest.split_at(FOLDERS_LENGTH);
+    let (text, end) = rest.split_at(ID_LENGTH);
+    Parts {
+        front,
+        folders,
+        text,
+        end,
+    }
+}
+
+/// Whether the parts of a name are those of the file of the id whose text is among them.
+fn are_those(parts: &Parts<'_>, store: &[u8], ending: &[u8]) -> bool
+    ensures { IsTrue result ↔ ((parts.now.front.now ≡ store.now)
+        × (parts.now.folders.now ≡ folders_of parts.now.text.now) × (parts.now.end.now ≡ ending.now)) }
+{
+    parts.front == store && parts.end == ending && parts.folders == folders(parts.text).as_slice()
 }
 
 /// The id of which a name is that of the file with this ending.
@@ -104,16 +144,15 @@ fn id_with(store: &[u8], name: &[u8], ending: Ending) -> Option<BlobId>
     if name.len() != store.len() + FOLDERS_LENGTH + ID_LENGTH + ending.len() {
         return None;
     }
-    let (front, rest) = name.split_at(store.len());
-    let (middle, rest) = rest.split_at(FOLDERS_LENGTH);
-    let (text, end) = rest.split_at(ID_LENGTH);
-    let Ok(id) = BlobId::parse(text) else {
+    let parts = cut(name, store.len());
+    let Ok(id) = BlobId::parse(parts.text) else {
         return None;
     };
-    let same = same_text(front, store)
-        && same_text(middle, folders(text).as_slice())
-        && same_text(end, ending);
-    if same { Some(id) } else { None }
+    if are_those(&parts, store, ending) {
+        Some(id)
+    } else {
+        None
+    }
 }
 
 /// The id of the blob of a store that has a file of this name, and which of its files that is; None exactly where the name
