@@ -111,3 +111,15 @@ same_then_put clock lists name value old mid new out first second =
     (weaker clock lists (Same start) P old mid (λ l same. put_after_same name value start l l out same (put_start name value l)) first)
     (weaker clock lists (MayPut name value (lists mid (clock mid))) P mid new
     (λ l put. put_after_same name value start (lists mid (clock mid)) l out (first.each (clock mid) first.later (omega arith)) put) second)
+
+-- a run that changes no list, and then another
+pub same_then_same : {D : Type 0} (clock : D → ℕ) (lists : D → ℕ → Lists) (old mid new : D)
+    → During clock lists old mid (Same (lists old (clock old)))
+    → During clock lists mid new (Same (lists mid (clock mid)))
+    → During clock lists old new (Same (lists old (clock old)))
+same_then_same clock lists old mid new first second =
+    let start = lists old (clock old) in
+    let P : Lists → Type 0 = Same start in
+    let here : P (lists mid (clock mid)) = first.each (clock mid) first.later (omega arith) in
+    and_then clock lists P old mid new first
+    (weaker clock lists (Same (lists mid (clock mid))) P mid new (λ l same n out. same n out ∙ here n out) second)

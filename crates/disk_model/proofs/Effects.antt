@@ -53,6 +53,18 @@ same_tree_of result files files' t name log log' same is = ap {B = Tree} (λ (f 
     tree (Err Failed) e = pushed false e
     tree (Err NoMemory) e = ap {B = Tree} (λ (l : List Change). tree_of files l) e
 
+-- a change that took no effect leaves the tree
+pub kept_tree_of : {T : Type 0} (result : Result T DiskErr) (files files' : Files) (t : ℕ) (name : List ℕ) (value : Option (Vec ℕ Global)) (log log' : List Change) → files' ≡ files → Noted result t name value false log log' → After result (Unit {0}) (tree_of files' log' ≡ tree_of files log) (Unit {0})
+kept_tree_of result files files' t name value log log' same is = kept result is
+  where
+    each : (n : List ℕ) → tree_of files (log ++ noted t name value false false ∷ []) n ≡ tree_of files log n
+    each n = elim (same_or_not n name) [ inl e ↦ tree_at files log (noted t name value false false) n e | inr other ↦ tree_rest files log (noted t name value false false) n other ]
+
+    kept : {S : Type 0} (r : Result S DiskErr) → Noted r t name value false log log' → After r (Unit {0}) (tree_of files' log' ≡ tree_of files log) (Unit {0})
+    kept (Ok x) e = tt
+    kept (Err Failed) e = ap {B = Tree} (λ (f : Files). tree_of f log') same ∙ (ap {B = Tree} (λ (l : List Change). tree_of files l) e ∙ (λ i n. each n i))
+    kept (Err NoMemory) e = tt
+
 -- ---- the lists
 
 lists_still : (files : Files) (log : List Change) (t u : ℕ) → all_before t log ≡ true → all_before u log ≡ true → lists_of files log u ≡ lists_of files log t
@@ -132,6 +144,24 @@ settles_of result files files' t u name log log' same is all later =
     settles (Err NoMemory) e =
         let still = lists_same files files log log' t u refl e all later in
         record { named = ap (λ (f : Lists). f name) still; rest = λ n out other. ap (λ (f : Lists). f n) still }
+
+-- a settling that took no effect leaves the lists
+pub kept_lists_of : {T : Type 0} (result : Result T DiskErr) (files files' : Files) (t u : ℕ) (name : List ℕ) (log log' : List Change) → files' ≡ files → Noted result t name None true log log' → all_before t log ≡ true → all_before u log' ≡ true → After result (Unit {0}) (lists_of files' log' u ≡ lists_of files log t) (Unit {0})
+kept_lists_of result files files' t u name log log' same is all later = kept result is
+  where
+    each : log' ≡ log ++ noted t name None false true ∷ [] → (n : List ℕ) → lists_of files (log ++ noted t name None false true ∷ []) u n ≡ lists_of files log t n
+    each e n =
+        let before = from_test t log all in
+        let after = from_test u _ (subst (λ (l : List Change). all_before u l ≡ true) e later) in
+        elim (same_or_not n name) [
+          | inl is_name ↦ lists_at files log (noted t name None false true) t u before after n is_name ∙ ap (λ (l : List Change). (run n l (first_of n files)).1) (sym (until-all t log before))
+          | inr other ↦ lists_rest files log (noted t name None false true) t u before after n other
+        ]
+
+    kept : {S : Type 0} (r : Result S DiskErr) → Noted r t name None true log log' → After r (Unit {0}) (lists_of files' log' u ≡ lists_of files log t) (Unit {0})
+    kept (Ok x) e = tt
+    kept (Err Failed) e = ap {B = Lists} (λ (f : Files). lists_of f log' u) same ∙ (ap {B = Lists} (λ (l : List Change). lists_of files l u) e ∙ (λ i n. each e n i))
+    kept (Err NoMemory) e = tt
 
 pub same_lists : (old new : Lists) → new ≡ old → Same old new
 same_lists old new e = λ n out. ap (λ (f : Lists). f n) e

@@ -1,6 +1,7 @@
 pub mod Chain
 pub mod CrashLemmas
 pub mod Effects
+pub mod Images
 pub mod ListedLemmas
 pub mod Names
 pub mod PickLemmas

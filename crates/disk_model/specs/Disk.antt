@@ -1,5 +1,5 @@
 -- What the calls of a disk do to its tree, and to the values that a crash may leave.
-use Rattle.std.specs.Prelude.{Bool, true, false, ◌<◌, ◌≡◌, ◌≢◌, ◌⊎◌, ℕ, ◌+◌, ◌≤◌, List, [], ◌∷◌, ◌++◌, length, take, Option, Some, None, IsSome, Result, Ok, Err, codes}
+use Rattle.std.specs.Prelude.{◌<◌, ◌≡◌, ◌≢◌, ◌⊎◌, ℕ, ◌+◌, ◌≤◌, List, [], ◌∷◌, ◌++◌, length, take, Option, IsSome, Result, Ok, Err, codes}
 use Rattle.std.specs.declared.cmp.Ordering.TheVariants.{Less}
 use Rattle.nx_base.specs.Order.{name_cmp}
 use Rattle.nx_io.specs.Causes.{Rose}
@@ -40,11 +40,6 @@ After (Err NoMemory) done failed refused = refused
 abbrev pub IsFault : DiskErr → Type 0
 IsFault Failed = Unit {0}
 IsFault NoMemory = ⊥
-
--- where a plan says whether the call fails, it does so by the plan; memory may run out in place of both
-abbrev pub ByPlan : {T : Type 0} → Option Bool → Result T DiskErr → Type 0
-ByPlan None result = Unit {0}
-ByPlan (Some fails) result = After result (fails ≡ false) (fails ≡ true) (Unit {0})
 
 -- outside tmp nothing changed
 abbrev pub Same : {V : Type 0} → (List ℕ → V) → (List ℕ → V) → Type 0

@@ -1,8 +1,10 @@
 pub mod Disk
 pub mod Listed
+pub mod Memory
 pub mod Moments
 pub mod Past
 pub mod PastLaws
 pub mod Picked
+pub mod Plan
 pub mod Seen
 pub mod Trail

@@ -1,7 +1,5 @@
 -- The tree and the lists of a disk in memory, read from its first files and the changes since.
-use Rattle.std.specs.Prelude.{◌≡◌, ◌<◌, ◌≤◌, ℕ, ◌+◌, ◌^◌, Result, Bool, true, false, not, ◌&&◌, ◌||◌, ◌==◌, List, [], ◌∷◌, ◌++◌, Option, Some, None, Vec, if◌then◌else◌, nat_lt, nat_le}
-use Rattle.std.specs.List.{list_any}
-use Rattle.std.specs.Option.{option_map_or}
+use Rattle.std.specs.Prelude.{◌≡◌, ◌<◌, ◌≤◌, ℕ, ◌+◌, ◌^◌, Result, Bool, true, false, not, ◌&&◌, List, [], ◌∷◌, ◌++◌, Option, Some, None, Vec, if◌then◌else◌, nat_lt}
 use Rattle.std.specs.declared.alloc.Global.{Global}
 use Rattle.std.specs.Str.{bytes_eq}
 use Rattle.disk_model.specs.declared.memory.change.Change.{Change}
@@ -87,11 +85,3 @@ Noted result t name value settles old new = After result
     (new ≡ old ++ record { at = t; name = name; value = value; done = true; settles = settles } ∷ [])
     (new ≡ old ++ record { at = t; name = name; value = value; done = false; settles = settles } ∷ [])
     (new ≡ old)
-
--- whether the call with that number is to fail: it is listed, or comes after the last one that goes well
-abbrev pub fails_at : List ℕ → Option ℕ → ℕ → Bool
-fails_at failing stop_after call = option_map_or (λ k. nat_le k call) stop_after false || list_any (λ n. n == call) failing
-
--- the call failed where it is to fail, and else went well; memory may run out in place of both
-abbrev pub FailsWhere : {T : Type 0} → Bool → Result T DiskErr → Type 0
-FailsWhere fails result = After result (fails ≡ false) (fails ≡ true) (Unit {0})

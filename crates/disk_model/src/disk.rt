@@ -1,7 +1,8 @@
-ghost use Rattle.std.specs.Prelude.{◌≡◌, ◌↔◌, Bool, List, [], ℕ, Option, length, take, IfOk, Some, None, IsSome, IfSome, IsTrue, MatchResult, option_map, vec_len};
+ghost use Rattle.std.specs.Prelude.{◌≡◌, ◌↔◌, List, [], ℕ, Option, length, take, IfOk, Some, None, IsSome, IfSome, IsTrue, MatchResult, option_map, vec_len};
 ghost use Rattle.nx_io.specs.Causes.{HasCauseWhere};
-ghost use Rattle.disk_model.specs.Disk.{Tree, Lists, Same, Puts, Joins, Settles, TakesBack, ByPlan, IsFault, IsListing, Among, small_limit};
+ghost use Rattle.disk_model.specs.Disk.{Tree, Lists, Same, Puts, Joins, Settles, TakesBack, IsFault, IsListing, Among, small_limit};
 ghost use Rattle.disk_model.specs.Moments.{Ticks};
+ghost use Rattle.disk_model.specs.Plan.{Plan, FailsByPlan, PlannedLeaves, GivesWriter, GivesReader};
 
 use crate::disk_err::DiskErr;
 use crate::reader::Reader;
@@ -35,8 +36,9 @@ pub trait Disk {
     /// At each moment of the clock, of each name the values that a crash may leave.
     ghost lists: { Self → ℕ → Lists };
 
-    /// Whether the next call that can fail is to fail, where that is known: for a disk whose failures are planned.
-    ghost plan: { Self → Option Bool };
+    /// Which calls of the disk, and of the writers and readers that it gives, are to fail, where that is known: for a
+    /// disk whose failures are planned.
+    ghost plan: { Self → Option Plan };
 
     /// What the last look at a file found: nothing, or so many bytes. It is known also where the files aren't told, so
     /// that nobody says that a file is missing or short where the disk didn't.
@@ -48,7 +50,8 @@ pub trait Disk {
         ensures sound { IfOk result (λ w. Self.Writer.faults w ≡ 0) }
         ensures tree { told → Same (tree self.old) (tree self.new) }
         ensures cause { HasCauseWhere IsFault (faults self.old) (faults self.new) result }
-        ensures plan { ByPlan (plan self.old) result }
+        ensures exact { FailsByPlan (plan self.old) (clock self.old) result }
+        ensures plan { GivesWriter Self.Writer.plan (plan self.old) (plan self.new) result }
         ensures crash { told → Same (lists self.old (clock self.old)) (lists self.new (clock self.new)) }
         ensures time { told → Ticks (clock self.old) (clock self.new) (lists self.old) (lists self.new) }
         ensures look { last_look self.new ≡ last_look self.old };
@@ -57,7 +60,9 @@ pub trait Disk {
     fn install(&mut self, file: Self::Sealed, name: &Name) -> Result<(), DiskErr>
         ensures tree { told → Puts result name.now (Some (Self.Writer.content file)) (tree self.old) (tree self.new) }
         ensures cause { HasCauseWhere IsFault (faults self.old) (faults self.new) result }
-        ensures plan { ByPlan (plan self.old) result }
+        ensures exact { FailsByPlan (plan self.old) (clock self.old) result }
+        ensures effect { told → PlannedLeaves (plan self.old) result (tree self.new ≡ tree self.old) }
+        ensures plan { plan self.new ≡ plan self.old }
         ensures crash { told → Joins result name.now (Some (Self.Writer.content file)) (lists self.old (clock self.old)) (lists self.new (clock self.new)) }
         ensures time { told → Ticks (clock self.old) (clock self.new) (lists self.old) (lists self.new) }
         ensures look { last_look self.new ≡ last_look self.old };
@@ -66,6 +71,7 @@ pub trait Disk {
     fn discard(&mut self, file: Self::Sealed)
         ensures tree { told → Same (tree self.old) (tree self.new) }
         ensures cause { faults self.new ≡ faults self.old }
+        ensures plan { plan self.new ≡ plan self.old }
         ensures crash { told → Same (lists self.old (clock self.old)) (lists self.new (clock self.new)) }
         ensures time { told → Ticks (clock self.old) (clock self.new) (lists self.old) (lists self.new) }
         ensures look { last_look self.new ≡ last_look self.old };
@@ -74,6 +80,7 @@ pub trait Disk {
     fn give_up(&mut self, file: Self::Writer)
         ensures tree { told → Same (tree self.old) (tree self.new) }
         ensures cause { TakesBack (faults self.old) (faults self.new) (Self.Writer.faults file) }
+        ensures plan { plan self.new ≡ plan self.old }
         ensures crash { told → Same (lists self.old (clock self.old)) (lists self.new (clock self.new)) }
         ensures time { told → Ticks (clock self.old) (clock self.new) (lists self.old) (lists self.new) }
         ensures look { last_look self.new ≡ last_look self.old };
@@ -82,6 +89,7 @@ pub trait Disk {
     fn end_reader(&mut self, file: Self::Reader)
         ensures tree { told → tree self.new ≡ tree self.old }
         ensures cause { TakesBack (faults self.old) (faults self.new) (Self.Reader.faults file) }
+        ensures plan { plan self.new ≡ plan self.old }
         ensures crash { told → lists self.new (clock self.new) ≡ lists self.old (clock self.old) }
         ensures time { told → Ticks (clock self.old) (clock self.new) (lists self.old) (lists self.new) }
         ensures look { last_look self.new ≡ last_look self.old };
@@ -90,7 +98,9 @@ pub trait Disk {
     fn sync(&mut self, name: &Name) -> Result<(), DiskErr>
         ensures tree { told → tree self.new ≡ tree self.old }
         ensures cause { HasCauseWhere IsFault (faults self.old) (faults self.new) result }
-        ensures plan { ByPlan (plan self.old) result }
+        ensures exact { FailsByPlan (plan self.old) (clock self.old) result }
+        ensures effect { told → PlannedLeaves (plan self.old) result (lists self.new (clock self.new) ≡ lists self.old (clock self.old)) }
+        ensures plan { plan self.new ≡ plan self.old }
         ensures crash { told → Settles result name.now (tree self.old name.now) (lists self.old (clock self.old)) (lists self.new (clock self.new)) }
         ensures time { told → Ticks (clock self.old) (clock self.new) (lists self.old) (lists self.new) }
         ensures look { last_look self.new ≡ last_look self.old };
@@ -100,7 +110,9 @@ pub trait Disk {
         ensures there { told → IfOk result (λ there. IsTrue there ↔ IsSome (tree self.old name.now)) }
         ensures tree { told → Puts result name.now None (tree self.old) (tree self.new) }
         ensures cause { HasCauseWhere IsFault (faults self.old) (faults self.new) result }
-        ensures plan { ByPlan (plan self.old) result }
+        ensures exact { FailsByPlan (plan self.old) (clock self.old) result }
+        ensures effect { told → PlannedLeaves (plan self.old) result (tree self.new ≡ tree self.old) }
+        ensures plan { plan self.new ≡ plan self.old }
         ensures crash { told → Joins result name.now None (lists self.old (clock self.old)) (lists self.new (clock self.new)) }
         ensures time { told → Ticks (clock self.old) (clock self.new) (lists self.old) (lists self.new) }
         ensures look { last_look self.new ≡ last_look self.old };
@@ -110,7 +122,8 @@ pub trait Disk {
         ensures bytes { told → IfOk result (λ found. option_map (λ v. v.items) found ≡ option_map (λ bytes. take small_limit bytes) (tree self.old name.now)) }
         ensures tree { told → tree self.new ≡ tree self.old }
         ensures cause { HasCauseWhere IsFault (faults self.old) (faults self.new) result }
-        ensures plan { ByPlan (plan self.old) result }
+        ensures exact { FailsByPlan (plan self.old) (clock self.old) result }
+        ensures plan { plan self.new ≡ plan self.old }
         ensures crash { told → lists self.new (clock self.new) ≡ lists self.old (clock self.old) }
         ensures time { told → Ticks (clock self.old) (clock self.new) (lists self.old) (lists self.new) }
         ensures look { MatchResult result (λ found. last_look self.new ≡ option_map (λ v. vec_len v) found) (λ _. last_look self.new ≡ last_look self.old) };
@@ -122,7 +135,8 @@ pub trait Disk {
         ensures sound { IfOk result (λ found. IfSome found (λ r. Self.Reader.faults r ≡ 0)) }
         ensures tree { told → tree self.new ≡ tree self.old }
         ensures cause { HasCauseWhere IsFault (faults self.old) (faults self.new) result }
-        ensures plan { ByPlan (plan self.old) result }
+        ensures exact { FailsByPlan (plan self.old) (clock self.old) result }
+        ensures plan { GivesReader Self.Reader.plan (plan self.old) (plan self.new) result }
         ensures crash { told → lists self.new (clock self.new) ≡ lists self.old (clock self.old) }
         ensures time { told → Ticks (clock self.old) (clock self.new) (lists self.old) (lists self.new) }
         ensures look { MatchResult result (λ found. last_look self.new ≡ option_map (λ r. Self.Reader.size r) found) (λ _. last_look self.new ≡ last_look self.old) };
@@ -132,7 +146,8 @@ pub trait Disk {
         ensures names { told → IfOk result (λ v. IsListing prefix.now (tree self.old) v.items) }
         ensures tree { told → tree self.new ≡ tree self.old }
         ensures cause { HasCauseWhere IsFault (faults self.old) (faults self.new) result }
-        ensures plan { ByPlan (plan self.old) result }
+        ensures exact { FailsByPlan (plan self.old) (clock self.old) result }
+        ensures plan { plan self.new ≡ plan self.old }
         ensures crash { told → lists self.new (clock self.new) ≡ lists self.old (clock self.old) }
         ensures time { told → Ticks (clock self.old) (clock self.new) (lists self.old) (lists self.new) }
         ensures look { last_look self.new ≡ last_look self.old };

@@ -1,6 +1,7 @@
-ghost use Rattle.std.specs.Prelude.{◌≡◌, ◌<◌, ◌≤◌, ◌++◌, ℕ, Bool, List, [], length, take, drop, IfOk, OnErr};
+ghost use Rattle.std.specs.Prelude.{◌≡◌, ◌<◌, ◌≤◌, ◌++◌, ℕ, Bool, List, [], Option, length, take, drop, IfOk, OnErr};
 ghost use Rattle.nx_io.specs.Causes.{HasCause};
 ghost use Rattle.nx_io.specs.Reads.{TellsEnd};
+ghost use Rattle.disk_model.specs.Plan.{PartPlan, ReadsByPlan};
 
 use nx_io::Failed;
 
@@ -21,6 +22,9 @@ pub trait Reader: Drop {
     /// How often it failed.
     ghost faults: { Self → ℕ };
 
+    /// Which of its calls of `read` are to fail, where that is known.
+    ghost plan: { Self → Option PartPlan };
+
     /// Writes the next bytes into the front of `buf` and returns how many. 0 for a buffer that isn't empty is the end.
     fn read(&mut self, buf: &mut [u8]) -> Result<usize, Failed>
         ensures within { IfOk result (λ n. n ≤ length buf.old) }
@@ -30,7 +34,8 @@ pub trait Reader: Drop {
         ensures failed { told → OnErr result (left self.new ≡ left self.old) }
         ensures end { TellsEnd (ended self.old) (ended self.new) result buf.new }
         ensures size { size self.new ≡ size self.old }
-        ensures cause { HasCause (faults self.old) (faults self.new) result };
+        ensures cause { HasCause (faults self.old) (faults self.new) result }
+        ensures plan { ReadsByPlan (plan self.old) (plan self.new) result };
 
     fn len(&self) -> u64
         ensures { result ≡ size self.now };

@@ -24,7 +24,7 @@ pub struct SilentPart {
 }
 
 impl Writer for SilentPart {
-    ghost use Rattle.std.specs.Prelude.{[]};
+    ghost use Rattle.std.specs.Prelude.{[], None};
 
     type Sealed = SilentPart;
 
@@ -35,6 +35,8 @@ impl Writer for SilentPart {
     ghost content = { λ w. [] };
 
     ghost faults = { λ w. w.faults };
+
+    ghost plan = { λ w. None };
 
     fn write(&mut self, part: &[u8]) -> Result<(), DiskErr> {
         if part.is_empty() {
@@ -56,7 +58,7 @@ impl Writer for SilentPart {
 }
 
 impl Reader for SilentPart {
-    ghost use Rattle.std.specs.Prelude.{[]};
+    ghost use Rattle.std.specs.Prelude.{[], None};
 
     ghost told = { ⊥ };
 
@@ -67,6 +69,8 @@ impl Reader for SilentPart {
     ghost ended = { λ r. r.ended };
 
     ghost faults = { λ r. r.faults };
+
+    ghost plan = { λ r. None };
 
     fn read(&mut self, buf: &mut [u8]) -> Result<usize, Failed> {
         if buf.is_empty() {

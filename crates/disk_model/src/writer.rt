@@ -1,6 +1,7 @@
-ghost use Rattle.std.specs.Prelude.{◌≡◌, ◌++◌, ℕ, List, IfOk, OnOk};
+ghost use Rattle.std.specs.Prelude.{◌≡◌, ◌++◌, ℕ, List, Option, IfOk, OnOk};
 ghost use Rattle.nx_io.specs.Causes.{HasCauseWhere};
 ghost use Rattle.disk_model.specs.Disk.{IsFault};
+ghost use Rattle.disk_model.specs.Plan.{PartPlan, WritesByPlan};
 
 use crate::disk_err::DiskErr;
 
@@ -20,15 +21,20 @@ pub trait Writer: Drop {
     /// How often it failed.
     ghost faults: { Self → ℕ };
 
+    /// Which of its calls, `write` and `seal`, are to fail, where that is known.
+    ghost plan: { Self → Option PartPlan };
+
     /// Appends the whole part.
     fn write(&mut self, part: &[u8]) -> Result<(), DiskErr>
         ensures written { told → OnOk result (written self.new ≡ written self.old ++ part.now) }
-        ensures cause { HasCauseWhere IsFault (faults self.old) (faults self.new) result };
+        ensures cause { HasCauseWhere IsFault (faults self.old) (faults self.new) result }
+        ensures plan { WritesByPlan (plan self.old) (plan self.new) result };
 
     /// Writes the file through to the device. Only a sealed file can be installed.
     fn seal(&mut self) -> Result<Self::Sealed, DiskErr>
         ensures content { told → IfOk result (λ file. content file ≡ written self.old) }
-        ensures cause { HasCauseWhere IsFault (faults self.old) (faults self.new) result };
+        ensures cause { HasCauseWhere IsFault (faults self.old) (faults self.new) result }
+        ensures plan { WritesByPlan (plan self.old) (plan self.new) result };
 
     /// Lets the writer go.
     fn abort(self);

@@ -1,7 +1,8 @@
 //! Numbers that stand still at their greatest value.
-ghost use Rattle.std.specs.Prelude.{◌≡◌, ◌+◌, ◌-◌, ◌^◌, min};
+ghost use Rattle.std.specs.Prelude.{◌≡◌};
 ghost use Rattle.disk_model.specs.Past.{Moves};
 ghost use Rattle.disk_model.specs.Disk.{TakesBack};
+ghost use Rattle.disk_model.specs.Plan.{one_more};
 
 /// The clock after one call more.
 pub fn next(calls: u64) -> u64
@@ -10,11 +11,11 @@ pub fn next(calls: u64) -> u64
     if calls < u64::MAX { calls + 1 } else { calls }
 }
 
-/// The count after one fault more.
-pub fn one_more(faults: u64) -> u64
-    ensures { result ≡ min (faults + 1) (2 ^ 64 - 1) }
+/// A count that rises by one.
+pub fn one_more(count: u64) -> u64
+    ensures { result ≡ one_more count }
 {
-    faults.saturating_add(1)
+    count.saturating_add(1)
 }
 
 /// The count after a part was taken back.

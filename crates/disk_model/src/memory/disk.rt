@@ -1,7 +1,8 @@
 ghost use Rattle.std.specs.Prelude.{◌≡◌, ◌<◌, ◌+◌, ◌/◌, length, if◌then◌else◌, ◌++◌, ◌∷◌, ◌^◌, [], ℕ, List, take, Some, None, IfOk, OnOk, OnErr, true, map, option_map, vec_len};
 ghost use Rattle.nx_io.specs.Causes.{HasCauseWhere};
 ghost use Rattle.disk_model.specs.Seen.{seen};
-ghost use Rattle.disk_model.specs.Past.{all_before, value_of, lookup, tree_of, lists_of, Moves, Noted, fails_at, FailsWhere};
+ghost use Rattle.disk_model.specs.Past.{all_before, value_of, lookup, Moves, Noted};
+ghost use Rattle.disk_model.specs.Plan.{fails_at, calls_listed, first_plan, part_plan, FailsByPlan, PlannedLeaves};
 ghost use Rattle.std.specs.Str.{bytes_eq};
 ghost use Rattle.disk_model.specs.Picked.{picked, AreNames, or_else, value_picked};
 ghost use Rattle.disk_model.specs.Disk.{After, Puts, Joins, Settles, IsFault, small_limit};
@@ -68,18 +69,39 @@ fn len_of(found: &Option<Vec<u8>>) -> Option<u64>
     }
 }
 
-// The calls of one part that fail.
-fn calls_of(alloc: Global, pairs: &[(u64, u64)], part: u64) -> Result<Vec<u64>, NoMemory> {
-    let mut calls = Vec::new(alloc);
-    for pair in pairs {
-        if pair.0 == part && calls.push(pair.1).is_err() {
-            return Err(NoMemory);
-        }
+// The calls of the part with that number that are to fail.
+fn calls_of(alloc: Global, pairs: &[(u64, u64)], part: u64) -> Result<Vec<u64>, NoMemory>
+    ensures { IfOk result (λ calls. calls.items ≡ calls_listed part pairs.now) }
+{
+    let calls = pairs
+        .iter()
+        .filter(|pair| pair.0 == part)
+        .map(|pair| pair.1);
+    match calls.collect(alloc) {
+        Ok(calls) => Ok(calls),
+        Err(_) => Err(NoMemory),
     }
-    Ok(calls)
+}
+
+// A reader of these bytes, with the failures that are planned for the reader with that number.
+fn reader_of(
+    alloc: Global,
+    bytes: &[u8],
+    pairs: &[(u64, u64)],
+    part: u64,
+) -> Result<MemReader, NoMemory>
+    ensures left { IfOk result (λ r. ⟦<MemReader as Reader>⟧.left r ≡ bytes.now) }
+    ensures size { IfOk result (λ r. ⟦<MemReader as Reader>⟧.size r ≡ length bytes.now) }
+    ensures sound { IfOk result (λ r. ⟦<MemReader as Reader>⟧.faults r ≡ 0) }
+    ensures plan { IfOk result (λ r. ⟦<MemReader as Reader>⟧.plan r ≡ Some (part_plan part pairs.now)) }
+{
+    let failing = calls_of(alloc, pairs, part)?;
+    MemReader::new(alloc, bytes, failing)
 }
 
 impl MemDisk {
+    ghost use Rattle.disk_model.specs.Memory.{tree_in, lists_in, clock_in, faults_in, look_in, plan_in};
+
     /// A disk with these files, each settled. Of several files with one name the first counts.
     pub fn new(
         alloc: Global,
@@ -87,13 +109,12 @@ impl MemDisk {
         failing: Vec<u64>,
         stop_after: Option<u64>,
     ) -> Result<MemDisk, NoMemory>
-        ensures tree { IfOk result (λ d. tree_of d.history.files.items d.history.log.items ≡ (λ n. lookup n files.items)) }
-        ensures settled { IfOk result (λ d. Settled (tree_of d.history.files.items d.history.log.items) (lists_of d.history.files.items d.history.log.items d.calls)) }
-        ensures faults { IfOk result (λ d. d.faults ≡ 0) }
-        ensures clock { IfOk result (λ d. d.calls ≡ 0) }
-        ensures looked { IfOk result (λ d. d.looked ≡ None) }
-        ensures failing { IfOk result (λ d. d.failing.items ≡ failing.items) }
-        ensures stop { IfOk result (λ d. d.stop_after ≡ stop_after) }
+        ensures tree { IfOk result (λ d. tree_in d ≡ (λ n. lookup n files.items)) }
+        ensures settled { IfOk result (λ d. Settled (tree_in d) (lists_in d (clock_in d))) }
+        ensures faults { IfOk result (λ d. faults_in d ≡ 0) }
+        ensures clock { IfOk result (λ d. clock_in d ≡ 0) }
+        ensures looked { IfOk result (λ d. look_in d ≡ None) }
+        ensures plan { IfOk result (λ d. plan_in d ≡ first_plan failing.items stop_after) }
     {
         let history = History::new(alloc, files)?;
         Ok(MemDisk {
@@ -112,9 +133,15 @@ impl MemDisk {
     }
 
     /// Lets calls of the writers and readers that the disk gives from now on fail. A pair is the number of a writer, or
-    /// of a reader, and the number of its call, both counted from 0; `seal` is a call too.
+    /// of a reader, and the number of its call. Both count from 0: the writers, or readers, that the disk has given
+    /// since it was made, and the calls of that one. `seal` is a call of a writer too.
     pub fn fail_parts(&mut self, writes: Vec<(u64, u64)>, reads: Vec<(u64, u64)>)
-        ensures { self.new ≡ record self.old { fail_writes = writes; fail_reads = reads } }
+        ensures plan { plan_in self.new ≡ record (plan_in self.old) { writes = writes.items; reads = reads.items } }
+        ensures tree { tree_in self.new ≡ tree_in self.old }
+        ensures lists { lists_in self.new ≡ lists_in self.old }
+        ensures clock { clock_in self.new ≡ clock_in self.old }
+        ensures faults { faults_in self.new ≡ faults_in self.old }
+        ensures looked { look_in self.new ≡ look_in self.old }
     {
         self.fail_writes = writes;
         self.fail_reads = reads;
@@ -122,7 +149,7 @@ impl MemDisk {
 
     /// The present value of the name. It is no call of the disk, so that the clock stays.
     pub fn value(&self, name: &Name) -> Option<&[u8]>
-        ensures { seen result ≡ tree_of self.now.history.files.items self.now.history.log.items name.now }
+        ensures { seen result ≡ tree_in self.now name.now }
     {
         self.history.find(name)
     }
@@ -130,7 +157,7 @@ impl MemDisk {
     /// The values that a crash may leave of the name at a moment of the clock, in the order in which they joined. A
     /// value that joined twice stands there twice. It is no call of the disk.
     pub fn values_at(&self, moment: u64, name: &Name) -> Result<Vec<Option<Vec<u8>>>, NoMemory>
-        ensures { IfOk result (λ v. map value_of v.items ≡ lists_of self.now.history.files.items self.now.history.log.items moment name.now) }
+        ensures { IfOk result (λ v. map value_of v.items ≡ lists_in self.now moment name.now) }
     {
         self.history.values_at(moment, name)
     }
@@ -142,9 +169,9 @@ impl MemDisk {
         name: &Name,
         pick: u64,
     ) -> Result<u64, NoMemory>
-        ensures left { IfOk result (λ left. left ≡ pick / length (lists_of self.now.history.files.items self.now.history.log.items self.now.calls name.now)) }
+        ensures left { IfOk result (λ left. left ≡ pick / length (lists_in self.now (clock_in self.now) name.now)) }
         ensures value { OnOk result ((n : List ℕ) → lookup n files.new.items ≡ or_else (lookup n files.old.items) (if bytes_eq n name.now
-            then value_picked (lists_of self.now.history.files.items self.now.history.log.items self.now.calls name.now) pick else None)) }
+            then value_picked (lists_in self.now (clock_in self.now) name.now) pick else None)) }
     {
         let mut values = self.values_at(self.calls, name)?;
         let len = values.as_slice().len() as u64;
@@ -164,11 +191,13 @@ impl MemDisk {
     /// which they joined. The names in `tmp` are absent.
     pub fn crash(self, pick: u64) -> Result<MemDisk, NoMemory>
         ensures picked { IfOk result (λ d. (names : List (List ℕ))
-            × AreNames (lists_of self.history.files.items self.history.log.items self.calls) names
-            × ((n : List ℕ) → tree_of d.history.files.items d.history.log.items n ≡ picked (lists_of self.history.files.items self.history.log.items self.calls) names pick n)) }
-        ensures image { IfOk result (λ d. IsImage (lists_of self.history.files.items self.history.log.items self.calls) (tree_of d.history.files.items d.history.log.items)) }
-        ensures settled { IfOk result (λ d. Settled (tree_of d.history.files.items d.history.log.items) (lists_of d.history.files.items d.history.log.items d.calls)) }
-        ensures sound { IfOk result (λ d. (d.failing.items ≡ []) × (d.stop_after ≡ None)) }
+            × AreNames (lists_in self (clock_in self)) names
+            × ((n : List ℕ) → tree_in d n ≡ picked (lists_in self (clock_in self)) names pick n)) }
+        ensures image { IfOk result (λ d. IsImage (lists_in self (clock_in self)) (tree_in d)) }
+        ensures settled { IfOk result (λ d. Settled (tree_in d) (lists_in d (clock_in d))) }
+        ensures plan { IfOk result (λ d. plan_in d ≡ first_plan [] None) }
+        ensures faults { IfOk result (λ d. faults_in d ≡ 0) }
+        ensures clock { IfOk result (λ d. clock_in d ≡ 0) }
     {
         let names = self.history.names()?;
         let mut files = Vec::new(self.alloc);
@@ -181,21 +210,21 @@ impl MemDisk {
 
     /// The clock: how many calls there were.
     pub fn clock(&self) -> u64
-        ensures { result ≡ self.now.calls }
+        ensures { result ≡ clock_in self.now }
     {
         self.calls
     }
 
     /// How many calls failed, the disk's own and those of the parts that it took back.
     pub fn faults(&self) -> u64
-        ensures { result ≡ self.now.faults }
+        ensures { result ≡ faults_in self.now }
     {
         self.faults
     }
 
     // Whether the next call fails.
     fn fails(&self) -> bool
-        ensures { result ≡ fails_at self.now.failing.items self.now.stop_after self.now.calls }
+        ensures { result ≡ fails_at (plan_in self.now).failing (plan_in self.now).stop_after (clock_in self.now) }
     {
         match self.stop_after {
             Some(last) if last <= self.calls => true,
@@ -206,10 +235,11 @@ impl MemDisk {
     // A call that can't fail and changes no list.
     fn skip(&mut self)
         ensures history { self.new.history ≡ self.old.history }
-        ensures faults { self.new.faults ≡ self.old.faults }
-        ensures looked { self.new.looked ≡ self.old.looked }
-        ensures crash { lists_of self.new.history.files.items self.new.history.log.items self.new.calls ≡ lists_of self.old.history.files.items self.old.history.log.items self.old.calls }
-        ensures time { Ticks self.old.calls self.new.calls (lists_of self.old.history.files.items self.old.history.log.items) (lists_of self.new.history.files.items self.new.history.log.items) }
+        ensures faults { faults_in self.new ≡ faults_in self.old }
+        ensures looked { look_in self.new ≡ look_in self.old }
+        ensures plan { plan_in self.new ≡ plan_in self.old }
+        ensures crash { lists_in self.new (clock_in self.new) ≡ lists_in self.old (clock_in self.old) }
+        ensures time { Ticks (clock_in self.old) (clock_in self.new) (lists_in self.old) (lists_in self.new) }
     {
         self.calls = next(self.calls);
     }
@@ -217,11 +247,12 @@ impl MemDisk {
     // A call that changes no list.
     fn tick(&mut self) -> Result<(), DiskErr>
         ensures history { self.new.history ≡ self.old.history }
-        ensures looked { self.new.looked ≡ self.old.looked }
-        ensures exact { FailsWhere (fails_at self.old.failing.items self.old.stop_after self.old.calls) result }
-        ensures cause { HasCauseWhere IsFault self.old.faults self.new.faults result }
-        ensures crash { lists_of self.new.history.files.items self.new.history.log.items self.new.calls ≡ lists_of self.old.history.files.items self.old.history.log.items self.old.calls }
-        ensures time { Ticks self.old.calls self.new.calls (lists_of self.old.history.files.items self.old.history.log.items) (lists_of self.new.history.files.items self.new.history.log.items) }
+        ensures looked { look_in self.new ≡ look_in self.old }
+        ensures plan { plan_in self.new ≡ plan_in self.old }
+        ensures exact { FailsByPlan (Some (plan_in self.old)) (clock_in self.old) result }
+        ensures cause { HasCauseWhere IsFault (faults_in self.old) (faults_in self.new) result }
+        ensures crash { lists_in self.new (clock_in self.new) ≡ lists_in self.old (clock_in self.old) }
+        ensures time { Ticks (clock_in self.old) (clock_in self.new) (lists_in self.old) (lists_in self.new) }
     {
         let fails = self.fails();
         self.skip();
@@ -241,12 +272,13 @@ impl MemDisk {
         settles: bool,
     ) -> Result<(), NoMemory>
         ensures files { self.new.history.files.items ≡ self.old.history.files.items }
-        ensures added { OnOk result (self.new.history.log.items ≡ self.old.history.log.items ++ record { at = self.old.calls; name = name.now; value = value; done = done; settles = settles } ∷ []) }
+        ensures added { OnOk result (self.new.history.log.items ≡ self.old.history.log.items ++ record { at = clock_in self.old; name = name.now; value = value; done = done; settles = settles } ∷ []) }
         ensures refused { OnErr result (self.new.history.log.items ≡ self.old.history.log.items) }
-        ensures room { OnOk result (self.old.calls + 1 < 2 ^ 64) }
-        ensures calls { Moves self.old.calls self.new.calls }
-        ensures faults { self.new.faults ≡ self.old.faults }
-        ensures looked { self.new.looked ≡ self.old.looked }
+        ensures room { OnOk result (clock_in self.old + 1 < 2 ^ 64) }
+        ensures calls { Moves (clock_in self.old) (clock_in self.new) }
+        ensures faults { faults_in self.new ≡ faults_in self.old }
+        ensures looked { look_in self.new ≡ look_in self.old }
+        ensures plan { plan_in self.new ≡ plan_in self.old }
     {
         let at = self.calls;
         self.calls = next(at);
@@ -266,12 +298,13 @@ impl MemDisk {
     // A call that changes the list of a name.
     fn note(&mut self, name: &Name, value: Option<Vec<u8>>, settles: bool) -> Result<(), DiskErr>
         ensures files { self.new.history.files.items ≡ self.old.history.files.items }
-        ensures log { Noted result self.old.calls name.now value settles self.old.history.log.items self.new.history.log.items }
-        ensures room { After result (self.old.calls + 1 < 2 ^ 64) (self.old.calls + 1 < 2 ^ 64) (Unit {0}) }
-        ensures looked { self.new.looked ≡ self.old.looked }
-        ensures exact { FailsWhere (fails_at self.old.failing.items self.old.stop_after self.old.calls) result }
-        ensures cause { HasCauseWhere IsFault self.old.faults self.new.faults result }
-        ensures calls { Moves self.old.calls self.new.calls }
+        ensures log { Noted result (clock_in self.old) name.now value settles self.old.history.log.items self.new.history.log.items }
+        ensures room { After result (clock_in self.old + 1 < 2 ^ 64) (clock_in self.old + 1 < 2 ^ 64) (Unit {0}) }
+        ensures looked { look_in self.new ≡ look_in self.old }
+        ensures plan { plan_in self.new ≡ plan_in self.old }
+        ensures exact { FailsByPlan (Some (plan_in self.old)) (clock_in self.old) result }
+        ensures cause { HasCauseWhere IsFault (faults_in self.old) (faults_in self.new) result }
+        ensures calls { Moves (clock_in self.old) (clock_in self.new) }
     {
         let fails = self.fails();
         match self.record(name, value, !fails, settles) {
@@ -288,24 +321,28 @@ impl MemDisk {
 
     // Gives the name a value.
     fn put(&mut self, name: &Name, value: Option<Vec<u8>>) -> Result<(), DiskErr>
-        ensures tree { Puts result name.now (value_of value) (tree_of self.old.history.files.items self.old.history.log.items) (tree_of self.new.history.files.items self.new.history.log.items) }
-        ensures looked { self.new.looked ≡ self.old.looked }
-        ensures exact { FailsWhere (fails_at self.old.failing.items self.old.stop_after self.old.calls) result }
-        ensures cause { HasCauseWhere IsFault self.old.faults self.new.faults result }
-        ensures crash { Joins result name.now (value_of value) (lists_of self.old.history.files.items self.old.history.log.items self.old.calls) (lists_of self.new.history.files.items self.new.history.log.items self.new.calls) }
-        ensures time { Ticks self.old.calls self.new.calls (lists_of self.old.history.files.items self.old.history.log.items) (lists_of self.new.history.files.items self.new.history.log.items) }
+        ensures tree { Puts result name.now (value_of value) (tree_in self.old) (tree_in self.new) }
+        ensures looked { look_in self.new ≡ look_in self.old }
+        ensures plan { plan_in self.new ≡ plan_in self.old }
+        ensures exact { FailsByPlan (Some (plan_in self.old)) (clock_in self.old) result }
+        ensures cause { HasCauseWhere IsFault (faults_in self.old) (faults_in self.new) result }
+        ensures effect { PlannedLeaves (Some (plan_in self.old)) result (tree_in self.new ≡ tree_in self.old) }
+        ensures crash { Joins result name.now (value_of value) (lists_in self.old (clock_in self.old)) (lists_in self.new (clock_in self.new)) }
+        ensures time { Ticks (clock_in self.old) (clock_in self.new) (lists_in self.old) (lists_in self.new) }
     {
         self.note(name, value, false)
     }
 
     // Leaves the present value alone in the name's list.
     fn settle(&mut self, name: &Name) -> Result<(), DiskErr>
-        ensures tree { tree_of self.new.history.files.items self.new.history.log.items ≡ tree_of self.old.history.files.items self.old.history.log.items }
-        ensures looked { self.new.looked ≡ self.old.looked }
-        ensures exact { FailsWhere (fails_at self.old.failing.items self.old.stop_after self.old.calls) result }
-        ensures cause { HasCauseWhere IsFault self.old.faults self.new.faults result }
-        ensures crash { Settles result name.now (tree_of self.old.history.files.items self.old.history.log.items name.now) (lists_of self.old.history.files.items self.old.history.log.items self.old.calls) (lists_of self.new.history.files.items self.new.history.log.items self.new.calls) }
-        ensures time { Ticks self.old.calls self.new.calls (lists_of self.old.history.files.items self.old.history.log.items) (lists_of self.new.history.files.items self.new.history.log.items) }
+        ensures tree { tree_in self.new ≡ tree_in self.old }
+        ensures looked { look_in self.new ≡ look_in self.old }
+        ensures plan { plan_in self.new ≡ plan_in self.old }
+        ensures exact { FailsByPlan (Some (plan_in self.old)) (clock_in self.old) result }
+        ensures cause { HasCauseWhere IsFault (faults_in self.old) (faults_in self.new) result }
+        ensures effect { PlannedLeaves (Some (plan_in self.old)) result (lists_in self.new (clock_in self.new) ≡ lists_in self.old (clock_in self.old)) }
+        ensures crash { Settles result name.now (tree_in self.old name.now) (lists_in self.old (clock_in self.old)) (lists_in self.new (clock_in self.new)) }
+        ensures time { Ticks (clock_in self.old) (clock_in self.new) (lists_in self.old) (lists_in self.new) }
     {
         self.note(name, None, true)
     }
@@ -313,7 +350,7 @@ impl MemDisk {
 
 impl Disk for MemDisk {
     ghost use Rattle.std.specs.Prelude.{Some};
-    ghost use Rattle.disk_model.specs.Past.{tree_of, lists_of, fails_at};
+    ghost use Rattle.disk_model.specs.Memory.{tree_in, lists_in, clock_in, faults_in, look_in, plan_in};
     ghost use Rattle.disk_model.specs.PastLaws.{present_of};
 
     type Sealed = MemSealed;
@@ -324,17 +361,17 @@ impl Disk for MemDisk {
 
     ghost told = { Unit {0} };
 
-    ghost tree = { λ d. tree_of d.history.files.items d.history.log.items };
+    ghost tree = { tree_in };
 
-    ghost faults = { λ d. d.faults };
+    ghost faults = { faults_in };
 
-    ghost clock = { λ d. d.calls };
+    ghost clock = { clock_in };
 
-    ghost lists = { λ d. lists_of d.history.files.items d.history.log.items };
+    ghost lists = { lists_in };
 
-    ghost plan = { λ d. Some (fails_at d.failing.items d.stop_after d.calls) };
+    ghost plan = { λ d. Some (plan_in d) };
 
-    ghost last_look = { λ d. d.looked };
+    ghost last_look = { look_in };
 
     ghost writers_tell = { λ told. told };
 
@@ -344,10 +381,11 @@ impl Disk for MemDisk {
 
     fn temp(&mut self) -> Result<MemWriter, DiskErr> {
         self.tick()?;
-        let part = self.writers;
-        self.writers = next(part);
-        match calls_of(self.alloc, &self.fail_writes, part) {
-            Ok(failing) => Ok(MemWriter::new(self.alloc, failing)),
+        match calls_of(self.alloc, &self.fail_writes, self.writers) {
+            Ok(failing) => {
+                self.writers = one_more(self.writers);
+                Ok(MemWriter::new(self.alloc, failing))
+            }
             Err(NoMemory) => Err(DiskErr::NoMemory),
         }
     }
@@ -393,23 +431,17 @@ impl Disk for MemDisk {
 
     fn open_file(&mut self, name: &Name) -> Result<Option<MemReader>, DiskErr> {
         self.tick()?;
-        let part = self.readers;
-        self.readers = next(part);
-        let Ok(failing) = calls_of(self.alloc, &self.fail_reads, part) else {
-            return Err(DiskErr::NoMemory);
+        let Some(bytes) = self.history.find(name) else {
+            self.looked = None;
+            return Ok(None);
         };
-        match self.history.find(name) {
-            None => {
-                self.looked = None;
-                Ok(None)
+        match reader_of(self.alloc, bytes, &self.fail_reads, self.readers) {
+            Ok(reader) => {
+                self.looked = Some(reader.len());
+                self.readers = one_more(self.readers);
+                Ok(Some(reader))
             }
-            Some(bytes) => match MemReader::new(self.alloc, bytes, failing) {
-                Ok(reader) => {
-                    self.looked = Some(reader.len());
-                    Ok(Some(reader))
-                }
-                Err(NoMemory) => Err(DiskErr::NoMemory),
-            },
+            Err(NoMemory) => Err(DiskErr::NoMemory),
         }
     }
 

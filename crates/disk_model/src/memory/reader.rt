@@ -1,6 +1,6 @@
 ghost use Rattle.std.specs.Prelude.{◌≡◌, ◌≤◌, length, false, IfOk};
 
-use crate::memory::count::{next, one_more};
+use crate::memory::count::one_more;
 use crate::reader::Reader;
 use nx_base::NoMemory;
 use nx_io::Failed;
@@ -49,7 +49,7 @@ impl MemReader {
 }
 
 impl Reader for MemReader {
-    ghost use Rattle.std.specs.Prelude.{length, drop};
+    ghost use Rattle.std.specs.Prelude.{length, drop, Some};
 
     ghost told = { Unit {0} };
 
@@ -61,9 +61,11 @@ impl Reader for MemReader {
 
     ghost faults = { λ r. r.faults };
 
+    ghost plan = { λ r. Some (record { failing = r.failing.items; calls = r.calls }) };
+
     fn read(&mut self, buf: &mut [u8]) -> Result<usize, Failed> {
         let fails = self.failing.contains(&self.calls);
-        self.calls = next(self.calls);
+        self.calls = one_more(self.calls);
         if fails {
             self.faults = one_more(self.faults);
             return Err(Failed);

@@ -1,9 +1,9 @@
-ghost use Rattle.std.specs.Prelude.{◌≡◌, ◌==◌, ◌≤◌, [], true};
-ghost use Rattle.std.specs.List.{list_any};
+ghost use Rattle.std.specs.Prelude.{◌≡◌, ◌≤◌, [], true};
 ghost use Rattle.nx_io.specs.Causes.{Rose};
+ghost use Rattle.disk_model.specs.Plan.{one_more, is_listed};
 
 use crate::disk_err::DiskErr;
-use crate::memory::count::{next, one_more};
+use crate::memory::count::one_more;
 use crate::writer::Writer;
 use std::alloc::Global;
 
@@ -49,12 +49,14 @@ impl MemWriter {
     // Whether this call fails. The count rises with it.
     fn fails(&mut self) -> bool
         ensures bytes { self.new.bytes.items ≡ self.old.bytes.items }
-        ensures listed { result ≡ list_any (λ n. n == self.old.calls) self.old.failing.items }
+        ensures listed { result ≡ is_listed self.old.failing.items self.old.calls }
+        ensures calls { self.new.calls ≡ one_more self.old.calls }
+        ensures failing { self.new.failing.items ≡ self.old.failing.items }
         ensures rose { result ≡ true → Rose self.old.faults self.new.faults }
         ensures later { self.old.faults ≤ self.new.faults }
     {
         let fails = self.failing.contains(&self.calls);
-        self.calls = next(self.calls);
+        self.calls = one_more(self.calls);
         if fails {
             self.faults = one_more(self.faults);
         }
@@ -63,6 +65,8 @@ impl MemWriter {
 }
 
 impl Writer for MemWriter {
+    ghost use Rattle.std.specs.Prelude.{Some};
+
     type Sealed = MemSealed;
 
     ghost told = { Unit {0} };
@@ -72,6 +76,8 @@ impl Writer for MemWriter {
     ghost content = { λ s. s.bytes.items };
 
     ghost faults = { λ w. w.faults };
+
+    ghost plan = { λ w. Some (record { failing = w.failing.items; calls = w.calls }) };
 
     fn write(&mut self, part: &[u8]) -> Result<(), DiskErr> {
         if self.fails() {
