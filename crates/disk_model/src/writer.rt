@@ -1,6 +1,7 @@
-ghost use Rattle.std.specs.Prelude.{◌≡◌, ◌++◌, ℕ, List, Option, IfOk, OnOk};
+ghost use Rattle.std.specs.Prelude.{◌≡◌, ◌++◌, ℕ, List, Option, IfOk, OnOk, IsErrOf};
 ghost use Rattle.nx_io.specs.Causes.{HasCauseWhere};
 ghost use Rattle.disk_model.specs.Disk.{IsFault};
+ghost use Rattle.disk_model.specs.declared.disk_err.DiskErr.TheVariants as refused;
 ghost use Rattle.disk_model.specs.Plan.{PartPlan, WritesByPlan};
 
 use crate::disk_err::DiskErr;
@@ -24,15 +25,17 @@ pub trait Writer: Drop {
     /// Which of its calls, `write` and `seal`, are to fail, where that is known.
     ghost plan: { Self → Option PartPlan };
 
-    /// Appends the whole part.
+    /// Appends the whole part. Where memory is refused nothing is appended; after a failure anything may be.
     fn write(&mut self, part: &[u8]) -> Result<(), DiskErr>
         ensures written { told → OnOk result (written self.new ≡ written self.old ++ part.now) }
+        ensures refused { told → IsErrOf result refused.NoMemory → written self.new ≡ written self.old }
         ensures cause { HasCauseWhere IsFault (faults self.old) (faults self.new) result }
         ensures plan { WritesByPlan (plan self.old) (plan self.new) result };
 
     /// Writes the file through to the device. Only a sealed file can be installed.
     fn seal(&mut self) -> Result<Self::Sealed, DiskErr>
         ensures content { told → IfOk result (λ file. content file ≡ written self.old) }
+        ensures refused { told → IsErrOf result refused.NoMemory → written self.new ≡ written self.old }
         ensures cause { HasCauseWhere IsFault (faults self.old) (faults self.new) result }
         ensures plan { WritesByPlan (plan self.old) (plan self.new) result };
 
