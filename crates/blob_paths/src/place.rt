@@ -5,7 +5,7 @@ ghost use Rattle.nx_base.specs.Names.{store_name_of};
 ghost use Rattle.nx_base.specs.Paths.{file_name_of};
 ghost use Rattle.blob_paths.specs.Hash.{tier_of};
 ghost use Rattle.blob_paths.specs.Ids.{IsId};
-ghost use Rattle.blob_paths.specs.Places.{two_digits, folders_of, HasRoom, volume_place, place_of, file_at};
+ghost use Rattle.blob_paths.specs.Places.{two_digits, folders_of, HasRoom, volume_place, place_of, file_at, IsOutsideTmp};
 ghost use Rattle.blob_paths.specs.Parts.{AreParts};
 ghost use Rattle.blob_paths.specs.declared.ending.Ending.{Ending};
 
@@ -86,6 +86,7 @@ pub fn location(alloc: Global, blob: &BlobRef, layout: Layout) -> Result<Name, N
     requires volume { layout ≡ Layout.Volume }
     ensures place { IfOk result (λ name. name ≡ place_of blob.now) }
     ensures room { IfOk result (λ name. HasRoom name) }
+    ensures outside { IfOk result (λ name. (ending : Ending) → IsOutsideTmp (file_at name ending)) }
 {
     let text = place_text(alloc, &blob.store, &blob.id)?;
     named(alloc, text.as_slice())

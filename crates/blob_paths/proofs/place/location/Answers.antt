@@ -1,7 +1,9 @@
 use Rattle.std.proofs.Common.{◌≡◌, List, ℕ, Ok, sym, subst, ◌∙◌, arith}
 use Rattle.std.specs.Str.{IsUtf8}
 use Rattle.nx_base.specs.Paths.{file_name_of}
-use Rattle.blob_paths.specs.Places.{volume_place, HasRoom}
+use Rattle.blob_paths.specs.declared.ending.Ending.{Ending}
+use Rattle.blob_paths.specs.Places.{volume_place, HasRoom, IsOutsideTmp, ending_of, file_at}
+use Rattle.blob_paths.proofs.Apart.{outside}
 use Rattle.blob_paths.proofs.Named.{place-named, place-good, place-length, store_parts}
 use Rattle.blob_paths.proofs.Parts.{on_ok}
 use Rattle.blob_paths.proofs.place.location.Goals as goal
@@ -29,3 +31,15 @@ returns-clause-room c =
     on_ok c.named.result c.named.ensures (λ name e.
     let is : name ≡ volume_place store id = e ∙ c.as_slice.ensures.value ∙ c.in_ok-text.ensures.text in
     subst HasRoom (sym is) (omega (arith, place-length store id good)))
+
+pub returns-clause-outside : goal.returns-clause-outside
+returns-clause-outside c =
+    let store = c.args.blob.now.store in
+    let id = c.args.blob.now.id in
+    let good = c.place_text.ensures.store in
+    on_ok c.named.result c.named.ensures (λ name e.
+    let is : name ≡ volume_place store id = e ∙ c.as_slice.ensures.value ∙ c.in_ok-text.ensures.text in
+    subst AllOutside (sym is) (λ ending. outside store id (ending_of ending) good))
+  where
+    AllOutside : List ℕ → Type 0
+    AllOutside name = (ending : Ending) → IsOutsideTmp (file_at name ending)
