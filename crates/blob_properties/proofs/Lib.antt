@@ -1,0 +1,3 @@
+pub mod Puts
+pub mod Numbers
+pub mod Meanings

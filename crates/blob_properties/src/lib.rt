@@ -20,6 +20,8 @@ mod found;
 mod own_keys;
 mod props_read;
 mod reason;
+mod required;
+mod values;
 mod pairs;
 mod to_pairs_err;
 
@@ -30,5 +32,6 @@ pub use found::{Found, Verdict};
 pub use nx_base::Marked;
 pub use props_read::PropsRead;
 pub use reason::Reason;
-pub use pairs::to_pairs;
+pub use required::of_pairs;
+
 pub use to_pairs_err::ToPairsErr;

@@ -1,20 +1,43 @@
 //! From properties to pairs.
-ghost use Rattle.std.specs.Prelude.{◌≡◌, ◌↔◌, ◌+◌, ◌<◌, ◌≤◌, length, Ok, IfOk, OnOk, IsErrOf};
+ghost use Rattle.std.specs.Prelude.{◌≡◌, ◌↔◌, ◌+◌, ◌<◌, ◌≤◌, length, Ok, IfOk, OnOk, OnErr, IsErrOf};
+ghost use Rattle.java_props.specs.Kept.{put};
 ghost use Rattle.blob_properties.specs.declared.to_pairs_err.ToPairsErr.TheVariants as refused;
 ghost use Rattle.blob_properties.specs.FromPairs.{props_of};
-ghost use Rattle.blob_properties.specs.ToPairs.{entries_of};
+ghost use Rattle.blob_properties.specs.ToPairs.{plain_entries, marked_entries, entries_of};
 
 use crate::blob_props::BlobProps;
+use crate::own_keys;
 use crate::to_pairs_err::ToPairsErr;
-use java_props::Pairs;
+use java_props::{Pairs, SetErr};
+use nx_base::NoMemory;
 use std::alloc::Global;
 
-/// The pairs of a blob's properties: [`crate::of_pairs`] gives the properties back from them.
-pub fn to_pairs(alloc: Global, props: &BlobProps) -> Result<Pairs, ToPairsErr>
-    ensures pairs { IfOk result (λ pairs. pairs ≡ entries_of props.now) }
-    ensures full { IsErrOf result refused.Full ↔ (256 < length (entries_of props.now)) }
-    ensures back { IfOk result (λ pairs. props_of pairs ≡ Ok props.now) }
+/// The most pairs of a text.
+const MOST_PAIRS: usize = 256;
+
+/// Sets the value of a key, where there is room for one more.
+pub fn put(alloc: Global, pairs: &mut Pairs, key: &str, value: &str) -> Result<(), NoMemory>
+    requires { length pairs.old < 256 }
+    ensures set { OnOk result (pairs.new ≡ put key.now value.now pairs.old) }
+    ensures room { length pairs.new ≤ length pairs.old + 1 }
 {
-    let _ = props.size;
-    Err(ToPairsErr::NoMemory)
+    match pairs.set(alloc, key, value) {
+        Ok(()) => Ok(()),
+        Err(SetErr::NoMemory) => Err(NoMemory),
+        Err(SetErr::Full) => unreachable!(),
+    }
+}
+
+/// The same pairs.
+fn copied(alloc: Global, pairs: &Pairs) -> Result<Pairs, NoMemory>
+    ensures { IfOk result (λ copy. copy ≡ pairs.now) }
+{
+    let mut copy = Pairs::new(alloc);
+    for at in 0..pairs.len() {
+        let Some((key, value)) = pairs.pair(at) else {
+            unreachable!();
+        };
+        put(alloc, &mut copy, key, value)?;
+    }
+    Ok(copy)
 }
