@@ -1,7 +1,10 @@
 -- The properties of a blob.
-use Rattle.std.specs.Prelude.{◌≡◌, ℕ, ◌^◌, ◌<◌, List, Option, Some, None, true, not}
+use Rattle.std.specs.Prelude.{◌≡◌, ℕ, ◌^◌, ◌<◌, List, length, slice_index, Option, Some, None, Ok, true, not}
 use Rattle.std.specs.List.{list_all}
 use Rattle.java_props.specs.Kept.{Entries}
+use Rattle.nx_base.specs.Names.{name_of}
+use Rattle.nx_base.specs.Paths.{path_of}
+use Rattle.nx_base.specs.ContentTypes.{content_type_of}
 use Rattle.nx_base.specs.declared.key.Key.{Key}
 use Rattle.blob_properties.specs.declared.deleted.Deleted.{Deleted}
 use Rattle.blob_properties.specs.Keys.{is_own_key}
@@ -37,3 +40,12 @@ AreOthers pairs = list_all (λ p. not (is_own_key p.0)) pairs ≡ true
 -- what each `BlobProps` keeps
 abbrev pub IsInRange : Props → Type 0
 IsInRange props = (props.size < 2 ^ 63) × (props.stamp < 2 ^ 48) × IsMarkInRange props.deleted × AreOthers props.others
+
+-- the properties of some blob: the texts are what their rules ask for, and the digest has twenty bytes
+pub record IsProps (props : Props) : Type 0 where
+  pub path : path_of props.key.path ≡ Ok props.key.path
+  pub repo : name_of props.key.repo ≡ Ok props.key.repo
+  pub content_type : content_type_of props.content_type ≡ Ok props.content_type
+  pub sha1_length : length props.sha1 ≡ 20
+  pub sha1_bytes : (at : ℕ) → slice_index props.sha1 at < 256
+  pub in_range : IsInRange props

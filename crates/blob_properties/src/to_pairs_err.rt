@@ -1,3 +1,7 @@
+ghost use Rattle.std.specs.Prelude.{◌≡◌};
+
+use nx_base::NoMemory;
+
 /// Why properties have no pairs.
 #[derive(Debug, Clone, Copy, PartialEq, Eq, Drop)]
 pub enum ToPairsErr {
@@ -5,4 +9,14 @@ pub enum ToPairsErr {
     Full,
     /// Memory was refused.
     NoMemory,
+}
+
+impl From<NoMemory> for ToPairsErr {
+    ghost use Rattle.blob_properties.specs.declared.to_pairs_err.ToPairsErr.TheVariants.{NoMemory};
+
+    ghost from_gives = { λ _ e. e ≡ NoMemory };
+
+    fn from(_: nx_base::NoMemory) -> ToPairsErr {
+        ToPairsErr::NoMemory
+    }
 }

@@ -1,0 +1,152 @@
+-- How long written texts are, and that there is room for a mark.
+use Rattle.std.proofs.Common.{slice_index, ◌≡◌, ℕ, zero, suc, ◌+◌, ◌*◌, ◌^◌, ◌<◌, ◌≤◌, Bool, true, false, true≢false, not, ◌&&◌, ◌||◌, eqb, ltb, cond, List, [], ◌∷◌, ◌++◌, length, length-append, Option, Some, None, Result, Ok, Err, decimal, codes, replicate, refl, sym, ap, ◌∙◌, subst, arith}
+use Rattle.std.specs.Prelude.{nat_le}
+use Rattle.std.specs.List.{flat_map, list_all}
+use Rattle.std.specs.Str.{chars}
+use Rattle.std.specs.Str.Parse.{AllDigits}
+use Rattle.std.specs.Char.{is_ascii_digit}
+use Rattle.std.specs.Char.Escape.{encode_utf16}
+use Rattle.std.proofs.lemmas.List.{length-replicate}
+use Rattle.std.proofs.lemmas.Str.{chars-IsAscii}
+use Rattle.std.proofs.lemmas.Fmt.{decimal_is_IsNumeral, length-decimal-le}
+use Rattle.std.proofs.lemmas.Bool.Decides.{nat_tests}
+use Rattle.java_props.specs.declared.PropsErr.{PropsErr}
+use Rattle.java_props.specs.Kept.{Entries, put, value_of}
+use Rattle.java_props.specs.Reading.{Reads, reading}
+use Rattle.java_props.specs.Writing.{is_special, char_text, guarded_text, key_text, value_chars, value_text, line_text, written}
+use Rattle.blob_properties.specs.Keys.{deleted_key, date_key, reason_key}
+use Rattle.blob_properties.specs.Props.{Props, IsProps, IsInRange, AreOthers, with_mark, without_mark}
+use Rattle.blob_properties.specs.FromPairs.{Refusal, props_of}
+use Rattle.blob_properties.specs.ToPairs.{plain_entries, marked_entries, with_deleted, entries_of}
+use Rattle.blob_properties.specs.Readable.{longest_text, HasRoom, has_room, if_room, from_pairs, readable_of, text_of}
+use Rattle.blob_properties.proofs.Puts.{both, written-put_new}
+use Rattle.blob_properties.proofs.Numbers.{and_true, digits_all}
+use Rattle.blob_properties.proofs.Round.{passes, no-mark, said_back}
+
+-- ---- values that are written as they are
+
+-- a printing byte that needs no backslash, and no space
+abbrev pub is_plain : ℕ → Bool
+is_plain b = ltb 32 b && ltb b 127 && not (is_special b)
+
+plain-char : (b : ℕ) → is_plain b ≡ true → char_text b ≡ b ∷ []
+unfolding char_text
+plain-char b h =
+    let parts = both (ltb 32 b) (ltb b 127 && not (is_special b)) h in
+    let more = both (ltb b 127) (not (is_special b)) parts.1 in
+    let low = parts.0 in
+    let high = more.0 in
+    let special : is_special b ≡ false = negated (is_special b) more.1 in
+    let tab : eqb b 9 ≡ false = grind (arith, nat_tests) in
+    let feed : eqb b 10 ≡ false = grind (arith, nat_tests) in
+    let return : eqb b 13 ≡ false = grind (arith, nat_tests) in
+    let form : eqb b 12 ≡ false = grind (arith, nat_tests) in
+    let below : ltb b 32 ≡ false = grind (arith, nat_tests) in
+    let above : ltb 126 b ≡ false = grind (arith, nat_tests) in
+    rw (special, tab, feed, return, form, below, above) refl where
+  negated : (x : Bool) → not x ≡ true → x ≡ false
+  negated true k = absurd (true≢false (sym k))
+  negated false k = refl
+
+plain-guarded : (b : ℕ) → is_plain b ≡ true → guarded_text b ≡ b ∷ []
+plain-guarded b h =
+    let parts = both (ltb 32 b) (ltb b 127 && not (is_special b)) h in
+    let low = parts.0 in
+    let space : eqb b 32 ≡ false = grind (arith, nat_tests) in
+    rw space (plain-char b h)
+
+plain-chars : (text : List ℕ) → list_all is_plain text ≡ true → flat_map char_text text ≡ text
+plain-chars [] h = refl
+plain-chars (b ∷ text) h =
+    let parts = both (is_plain b) (list_all is_plain text) h in
+    rw (plain-char b parts.0, plain-chars text parts.1) refl
+
+plain-ascii : (text : List ℕ) → list_all is_plain text ≡ true → (at : ℕ) → slice_index text at < 128
+plain-ascii [] h at = omega arith
+plain-ascii (b ∷ text) h zero =
+    let parts = both (ltb 32 b) (ltb b 127 && not (is_special b)) (both (is_plain b) (list_all is_plain text) h).0 in
+    let high = (both (ltb b 127) (not (is_special b)) parts.1).0 in
+    grind (arith, nat_tests)
+plain-ascii (b ∷ text) h (suc at) = plain-ascii text (both (is_plain b) (list_all is_plain text) h).1 at
+
+-- a plain text is written as it is
+pub plain-value : (text : List ℕ) → list_all is_plain text ≡ true → value_text text ≡ text
+unfolding value_text
+plain-value text h = ap value_chars (chars-IsAscii text (plain-ascii text h)) ∙ by_first text h where
+  by_first : (text : List ℕ) → list_all is_plain text ≡ true → value_chars text ≡ text
+  by_first [] h = refl
+  by_first (b ∷ text) h =
+      let parts = both (is_plain b) (list_all is_plain text) h in
+      rw (plain-guarded b parts.0, plain-chars text parts.1) refl
+
+digit-plain : (b : ℕ) → is_ascii_digit b ≡ true → is_plain b ≡ true
+digit-plain b h = grind (arith, nat_tests)
+
+digits-plain : (text : List ℕ) → list_all is_ascii_digit text ≡ true → list_all is_plain text ≡ true
+digits-plain [] h = refl
+digits-plain (b ∷ text) h =
+    let parts = both (is_ascii_digit b) (list_all is_ascii_digit text) h in
+    and_true (is_plain b) (list_all is_plain text) (digit-plain b parts.0) (digits-plain text parts.1)
+
+-- a time is written in at most fifteen bytes
+pub date-length : (at : ℕ) → at < 2 ^ 48 → length (value_text (decimal at)) ≤ 15
+date-length at small =
+    let numeral = (decimal_is_IsNumeral at (omega arith)).0 in
+    let same = plain-value (decimal at) (digits-plain (decimal at) (digits_all (decimal at) numeral.1)) in
+    let short = length-decimal-le 15 at (omega arith) (omega arith) (omega arith) in
+    subst (λ (t : List ℕ). length t ≤ 15) (sym same) short
+
+copies-plain : (n b : ℕ) → is_plain b ≡ true → list_all is_plain (replicate n b) ≡ true
+copies-plain zero b h = refl
+copies-plain (suc n) b h = and_true (is_plain b) (list_all is_plain (replicate n b)) h (copies-plain n b h)
+
+copies-length : (n b : ℕ) → is_plain b ≡ true → length (value_text (replicate n b)) ≡ n
+copies-length n b h = ap length (plain-value (replicate n b) (copies-plain n b h)) ∙ length-replicate n b
+
+-- ---- the lines of a mark
+
+line-length : (k v : List ℕ) → length (line_text (k, v)) ≡ length (key_text k) + length (value_text v) + 2
+line-length k v = omega (arith, length-append (key_text k ++ 61 ∷ value_text v) (10 ∷ []), length-append (key_text k) (61 ∷ value_text v))
+
+-- what a mark adds to the written text
+abbrev pub mark_length : List ℕ → List ℕ → ℕ
+mark_length date reason = length (line_text (deleted_key, codes "true")) + length (line_text (date_key, date)) + length (line_text (reason_key, reason))
+
+marked-text-length : (props : Props) (date reason : List ℕ) → AreOthers props.others
+    → length (written (marked_entries date reason (plain_entries props))) ≡ length (written (plain_entries props)) + mark_length date reason
+unfolding marked_entries
+marked-text-length props date reason are =
+    let e = plain_entries props in
+    let none = no-mark props are in
+    let said = put deleted_key (codes "true") e in
+    let dated = put date_key date said in
+    let a = written-put_new deleted_key (codes "true") e none.0 in
+    let b = written-put_new date_key date said (passes deleted_key date_key (codes "true") e refl ∙ none.1) in
+    let c = written-put_new reason_key reason dated (passes date_key reason_key date said refl ∙ passes deleted_key reason_key (codes "true") e refl ∙ none.2) in
+    omega arith
+
+-- the longest mark is at least as long as another one
+longest : (date reason : List ℕ) → length (value_text date) ≤ 15 → length (value_text reason) ≤ 100
+    → mark_length date reason ≤ mark_length (replicate 15 57) (replicate 100 120)
+longest date reason short brief =
+    let a = copies-length 15 57 refl in
+    let b = copies-length 100 120 refl in
+    omega (arith, a, b, line-length date_key date, line-length date_key (replicate 15 57), line-length reason_key reason, line-length reason_key (replicate 100 120))
+
+-- the text with a mark is no longer than the one with the longest mark
+pub marked-fits : (props : Props) (date reason : List ℕ) → AreOthers props.others → length (value_text date) ≤ 15 → length (value_text reason) ≤ 100 → HasRoom props
+    → length (written (marked_entries date reason (plain_entries props))) ≤ 65536
+unfolding longest_text
+marked-fits props date reason are short brief room =
+    let bytes = room.bytes in
+    let a = marked-text-length props date reason are in
+    let b = marked-text-length props (replicate 15 57) (replicate 100 120) are in
+    let c = longest date reason short brief in
+    omega arith
+
+pub plain-fits : (props : Props) → AreOthers props.others → HasRoom props → length (written (plain_entries props)) ≤ 65536
+unfolding longest_text
+plain-fits props are room =
+    let bytes = room.bytes in
+    let b = marked-text-length props (replicate 15 57) (replicate 100 120) are in
+    omega arith
