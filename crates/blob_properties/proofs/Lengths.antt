@@ -1,5 +1,5 @@
 -- How long written texts are, and that there is room for a mark.
-use Rattle.std.proofs.Common.{slice_index, ◌≡◌, ℕ, zero, suc, ◌+◌, ◌*◌, ◌^◌, ◌<◌, ◌≤◌, Bool, true, false, true≢false, not, ◌&&◌, ◌||◌, eqb, ltb, cond, List, [], ◌∷◌, ◌++◌, length, length-append, Option, Some, None, Result, Ok, Err, decimal, codes, replicate, refl, sym, ap, ◌∙◌, subst, arith}
+use Rattle.std.proofs.Common.{slice_index, ◌≡◌, ℕ, zero, suc, ◌+◌, ◌*◌, ◌^◌, ◌<◌, ◌≤◌, Bool, true, false, true≢false, not, ◌&&◌, ◌||◌, eqb, ltb, cond, List, [], ◌∷◌, ◌++◌, length, length-append, Option, Some, None, is_some, Result, Ok, Err, decimal, codes, replicate, refl, sym, ap, ◌∙◌, subst, arith}
 use Rattle.std.specs.Prelude.{nat_le}
 use Rattle.std.specs.List.{flat_map, list_all}
 use Rattle.std.specs.Str.{chars}
@@ -27,7 +27,7 @@ use Rattle.blob_properties.proofs.Round.{passes, no-mark, said_back}
 
 -- a printing byte that needs no backslash, and no space
 abbrev pub is_plain : ℕ → Bool
-is_plain b = ltb 32 b && ltb b 127 && not (is_special b)
+is_plain b = ltb 32 b && (ltb b 127 && not (is_special b))
 
 plain-char : (b : ℕ) → is_plain b ≡ true → char_text b ≡ b ∷ []
 unfolding char_text
@@ -150,3 +150,95 @@ plain-fits props are room =
     let bytes = room.bytes in
     let b = marked-text-length props (replicate 15 57) (replicate 100 120) are in
     omega arith
+
+-- ---- readable texts
+
+room-test : (props : Props) → HasRoom props → has_room props ≡ true
+room-test props room =
+    let pairs = room.pairs in
+    let bytes = room.bytes in
+    let a : nat_le (length props.others) 247 ≡ true = grind (arith, nat_tests) in
+    let b : nat_le (length (longest_text props)) 65536 ≡ true = grind (arith, nat_tests) in
+    rw (a, b) refl
+
+test-room : (props : Props) → has_room props ≡ true → HasRoom props
+test-room props h =
+    let parts = both (nat_le (length props.others) 247) (nat_le (length (longest_text props)) 65536) h in
+    let a = parts.0 in
+    let b = parts.1 in
+    record { pairs = grind (arith, nat_tests); bytes = grind (arith, nat_tests) }
+
+-- a text that says pairs, which say properties that leave room
+pub is_readable : (text : List ℕ) (pairs : Entries) (props : Props) → Reads text pairs → props_of pairs ≡ Ok props → HasRoom props → readable_of text ≡ Some props
+unfolding readable_of
+is_readable text pairs props reads says room =
+    ap from_pairs reads ∙ ap if_room says ∙ ap (λ (b : Bool). cond b (Some props) None) (room-test props room)
+
+-- there is none without room
+pub no_room : (text : List ℕ) (pairs : Entries) (props : Props) → Reads text pairs → props_of pairs ≡ Ok props → (HasRoom props → ⊥) → readable_of text ≡ None
+unfolding readable_of
+no_room text pairs props reads says small =
+    ap from_pairs reads ∙ ap if_room says ∙ by_test (has_room props) refl where
+  by_test : (b : Bool) → has_room props ≡ b → cond b (Some props) None ≡ None
+  by_test true h = absurd (small (test-room props h))
+  by_test false h = refl
+
+pub bad_pairs : (text : List ℕ) (pairs : Entries) (e : Refusal) → Reads text pairs → props_of pairs ≡ Err e → readable_of text ≡ None
+unfolding readable_of
+bad_pairs text pairs e reads says = ap from_pairs reads ∙ ap if_room says
+
+pub bad_text : (text : List ℕ) (e : PropsErr) → reading text ≡ Err e → readable_of text ≡ None
+unfolding readable_of
+bad_text text e refused = ap from_pairs refused
+
+-- readable properties leave room
+pub readable-room : (text : List ℕ) (props : Props) → readable_of text ≡ Some props → HasRoom props
+unfolding readable_of
+readable-room text props h = by_pairs (reading text) h where
+  by_props : (r : Result Props Refusal) → if_room r ≡ Some props → HasRoom props
+  by_props (Ok other) k = by_test (has_room other) refl k where
+    by_test : (b : Bool) → has_room other ≡ b → cond b (Some other) None ≡ Some props → HasRoom props
+    by_test true t k = let same : other ≡ props = cc in subst HasRoom same (test-room other t)
+    by_test false t k = absurd (true≢false (sym (ap is_some k)))
+  by_props (Err e) k = absurd (true≢false (sym (ap is_some k)))
+
+  by_pairs : (r : Result Entries PropsErr) → from_pairs r ≡ Some props → HasRoom props
+  by_pairs (Ok pairs) k = by_props (props_of pairs) k
+  by_pairs (Err e) k = absurd (true≢false (sym (ap is_some k)))
+
+-- a mark changes neither the other pairs nor the longest text
+pub mark-room : (props : Props) (reason : List ℕ) (at : ℕ) → HasRoom props → HasRoom (with_mark props reason at)
+unfolding longest_text plain_entries
+mark-room props reason at room = record { pairs = room.pairs; bytes = room.bytes }
+
+pub unmark-room : (props : Props) → HasRoom props → HasRoom (without_mark props)
+unfolding longest_text plain_entries
+unmark-room props room = record { pairs = room.pairs; bytes = room.bytes }
+
+pub plain-marked : (props : Props) (reason : List ℕ) (at : ℕ) → plain_entries (with_mark props reason at) ≡ plain_entries props
+unfolding plain_entries
+plain-marked props reason at = refl
+
+pub plain-unmarked : (props : Props) → plain_entries (without_mark props) ≡ plain_entries props
+unfolding plain_entries
+plain-unmarked props = refl
+
+pub mark-props : (props : Props) (reason : List ℕ) (at : ℕ) → at < 2 ^ 48 → IsProps props → IsProps (with_mark props reason at)
+mark-props props reason at small is = record {
+  path = is.path;
+  repo = is.repo;
+  content_type = is.content_type;
+  sha1_length = is.sha1_length;
+  sha1_bytes = is.sha1_bytes;
+  in_range = (is.in_range.0, is.in_range.1, small, is.in_range.3);
+}
+
+pub unmark-props : (props : Props) → IsProps props → IsProps (without_mark props)
+unmark-props props is = record {
+  path = is.path;
+  repo = is.repo;
+  content_type = is.content_type;
+  sha1_length = is.sha1_length;
+  sha1_bytes = is.sha1_bytes;
+  in_range = (is.in_range.0, is.in_range.1, tt, is.in_range.3);
+}
