@@ -10,13 +10,20 @@ use Rattle.std.proofs.lemmas.List.{length-replicate}
 use Rattle.std.proofs.lemmas.Str.{chars-IsAscii}
 use Rattle.std.proofs.lemmas.Fmt.{decimal_is_IsNumeral, length-decimal-le}
 use Rattle.std.proofs.lemmas.Bool.Decides.{nat_tests}
+use Rattle.std.proofs.Common.{◌⊎◌, inl, inr, take, min}
+use Rattle.std.proofs.lemmas.Bool.{cases_lt}
+use Rattle.std.proofs.lemmas.List.{take_all}
+use Rattle.std.proofs.Math.ListN.{length-take}
+use Rattle.java_props.specs.declared.PropsErr.TheVariants.{TooLong}
 use Rattle.java_props.specs.declared.PropsErr.{PropsErr}
 use Rattle.java_props.specs.Kept.{Entries, put, value_of}
 use Rattle.java_props.specs.Reading.{Reads, reading}
 use Rattle.java_props.specs.Writing.{is_special, char_text, guarded_text, key_text, value_chars, value_text, line_text, written}
 use Rattle.blob_properties.specs.Keys.{deleted_key, date_key, reason_key}
 use Rattle.blob_properties.specs.Props.{Props, IsProps, IsInRange, AreOthers, with_mark, without_mark}
-use Rattle.blob_properties.specs.FromPairs.{Refusal, props_of}
+use Rattle.blob_properties.specs.declared.blob_props_err.BlobPropsErr.{BlobPropsErr}
+use Rattle.blob_properties.specs.declared.blob_props_err.BlobPropsErr.TheVariants.{Missing, BadValue, NoMemory}
+use Rattle.blob_properties.specs.FromPairs.{Refusal, Gives, props_of}
 use Rattle.blob_properties.specs.ToPairs.{plain_entries, marked_entries, with_deleted, entries_of}
 use Rattle.blob_properties.specs.Readable.{longest_text, HasRoom, has_room, if_room, from_pairs, readable_of, text_of}
 use Rattle.blob_properties.proofs.Puts.{both, written-put_new}
@@ -242,3 +249,40 @@ unmark-props props is = record {
   sha1_bytes = is.sha1_bytes;
   in_range = (is.in_range.0, is.in_range.1, tt, is.in_range.3);
 }
+
+-- the test that the code makes is that of the definition
+pub room-same : (b : Bool) (props : Props) → (b ≡ true → HasRoom props) → (HasRoom props → b ≡ true) → b ≡ has_room props
+room-same b props to from = by_tests b (has_room props) (λ h. room-test props (to h)) (λ h. from (test-room props h)) where
+  by_tests : (a c : Bool) → (a ≡ true → c ≡ true) → (c ≡ true → a ≡ true) → a ≡ c
+  by_tests true c f g = sym (f refl)
+  by_tests false true f g = g refl
+  by_tests false false f g = refl
+
+-- properties that were read, by the test of their room
+pub by_room : (b : Bool) (props : Props) → b ≡ has_room props → cond b (Some props) None ≡ if_room (Ok props)
+by_room b props e = ap (λ (x : Bool). cond x (Some props) None) e
+
+-- a refusal that isn't want of memory is one of the definition
+pub bad_room : (wanted : Result Props Refusal) (e : BlobPropsErr) → Gives wanted (Err e) → (e ≡ NoMemory → ⊥) → None ≡ if_room wanted
+bad_room wanted (Missing key) h other = sym (ap if_room h)
+bad_room wanted (BadValue key) h other = sym (ap if_room h)
+bad_room wanted NoMemory h other = absurd (other refl)
+
+-- a text that is read says what its pairs say
+pub readable-pairs : (text : List ℕ) (pairs : Entries) → Reads text pairs → readable_of text ≡ if_room (props_of pairs)
+unfolding readable_of
+readable-pairs text pairs reads = ap from_pairs reads
+
+too_long : (text : List ℕ) → 65536 < length text → reading text ≡ Err (TooLong (length text))
+unfolding reading
+too_long text long = let over : ltb 65536 (length text) ≡ true = grind (arith, nat_tests) in rw over refl
+
+-- no text of more than 65,536 bytes is readable, whatever stands behind
+pub readable-front : (text : List ℕ) (n : ℕ) → 65536 < n → readable_of (take n text) ≡ readable_of text
+unfolding readable_of reading
+readable-front text n more = by_length (cases_lt 65536 (length text)) where
+  by_length : (65536 < length text) ⊎ (length text ≤ 65536) → readable_of (take n text) ≡ readable_of text
+  by_length (inl long) =
+      let front : 65536 < length (take n text) = omega (arith, length-take n text) in
+      bad_text (take n text) (TooLong (length (take n text))) (too_long (take n text) front) ∙ sym (bad_text text (TooLong (length text)) (too_long text long))
+  by_length (inr short) = ap readable_of (take_all n text (omega arith))
