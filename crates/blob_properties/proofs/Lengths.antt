@@ -51,9 +51,9 @@ plain-char b h =
     let below : ltb b 32 ≡ false = grind (arith, nat_tests) in
     let above : ltb 126 b ≡ false = grind (arith, nat_tests) in
     rw (special, tab, feed, return, form, below, above) refl where
-  negated : (x : Bool) → not x ≡ true → x ≡ false
-  negated true k = absurd (true≢false (sym k))
-  negated false k = refl
+      negated : (x : Bool) → not x ≡ true → x ≡ false
+      negated true k = absurd (true≢false (sym k))
+      negated false k = refl
 
 plain-guarded : (b : ℕ) → is_plain b ≡ true → guarded_text b ≡ b ∷ []
 plain-guarded b h =
@@ -186,9 +186,9 @@ pub no_room : (text : List ℕ) (pairs : Entries) (props : Props) → Reads text
 unfolding readable_of
 no_room text pairs props reads says small =
     ap from_pairs reads ∙ ap if_room says ∙ by_test (has_room props) refl where
-  by_test : (b : Bool) → has_room props ≡ b → cond b (Some props) None ≡ None
-  by_test true h = absurd (small (test-room props h))
-  by_test false h = refl
+      by_test : (b : Bool) → has_room props ≡ b → cond b (Some props) None ≡ None
+      by_test true h = absurd (small (test-room props h))
+      by_test false h = refl
 
 pub bad_pairs : (text : List ℕ) (pairs : Entries) (e : Refusal) → Reads text pairs → props_of pairs ≡ Err e → readable_of text ≡ None
 unfolding readable_of

@@ -43,20 +43,20 @@ pub number_of-none : (most end : ℕ) (text : List ℕ) → (IsNumeral 10 text �
 unfolding number_of
 number_of-none most end text never =
     by_tests (nat_lt 0 (length text)) (nat_le (length text) most) (list_all is_ascii_digit text) (nat_lt (digits_value 10 text) end) refl refl refl refl where
-  holds : nat_lt 0 (length text) ≡ true → nat_le (length text) most ≡ true → list_all is_ascii_digit text ≡ true → nat_lt (digits_value 10 text) end ≡ true → ⊥
-  holds a b c d =
-      let some : 0 < length text = grind (arith, nat_tests) in
-      let short : length text ≤ most = grind (arith, nat_tests) in
-      let small : digits_value 10 text < end = grind (arith, nat_tests) in
-      never ((some, all_digits text c), short, small)
+      holds : nat_lt 0 (length text) ≡ true → nat_le (length text) most ≡ true → list_all is_ascii_digit text ≡ true → nat_lt (digits_value 10 text) end ≡ true → ⊥
+      holds a b c d =
+          let some : 0 < length text = grind (arith, nat_tests) in
+          let short : length text ≤ most = grind (arith, nat_tests) in
+          let small : digits_value 10 text < end = grind (arith, nat_tests) in
+          never ((some, all_digits text c), short, small)
 
-  by_tests : (a b c d : Bool) → nat_lt 0 (length text) ≡ a → nat_le (length text) most ≡ b → list_all is_ascii_digit text ≡ c → nat_lt (digits_value 10 text) end ≡ d
-      → cond (a && b && c && d) (Some (digits_value 10 text)) None ≡ None
-  by_tests true true true true a b c d = absurd (holds a b c d)
-  by_tests true true true false a b c d = refl
-  by_tests true true false d' a b c d = refl
-  by_tests true false c' d' a b c d = refl
-  by_tests false b' c' d' a b c d = refl
+      by_tests : (a b c d : Bool) → nat_lt 0 (length text) ≡ a → nat_le (length text) most ≡ b → list_all is_ascii_digit text ≡ c → nat_lt (digits_value 10 text) end ≡ d
+          → cond (a && b && c && d) (Some (digits_value 10 text)) None ≡ None
+      by_tests true true true true a b c d = absurd (holds a b c d)
+      by_tests true true true false a b c d = refl
+      by_tests true true false d' a b c d = refl
+      by_tests true false c' d' a b c d = refl
+      by_tests false b' c' d' a b c d = refl
 
 pub number_is : (r : Option ℕ) (most end : ℕ) (text : List ℕ) → SomeIff r (IsNumeral 10 text × (length text ≤ most) × (digits_value 10 text < end)) (digits_value 10 text) → r ≡ number_of most end text
 number_is None most end text h = sym (number_of-none most end text h)

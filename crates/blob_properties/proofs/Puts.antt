@@ -99,10 +99,10 @@ value_of-others key [] own h = refl
 value_of-others key (p ∷ e) own h =
     let parts = both (not (is_own_key p.0)) (list_all (λ p. not (is_own_key p.0)) e) h in
     by_order (text_cmp key p.0) refl (not_own (is_own_key p.0) parts.0) (value_of-others key e own parts.1) where
-  by_order : (o : Ordering) → text_cmp key p.0 ≡ o → is_own_key p.0 ≡ false → value_of key e ≡ None → value_at o p.1 (value_of key e) ≡ None
-  by_order Less k other more = refl
-  by_order Equal k other more = absurd (true≢false (sym own ∙ ap is_own_key (exact_bytes key p.0 k) ∙ other))
-  by_order Greater k other more = more
+      by_order : (o : Ordering) → text_cmp key p.0 ≡ o → is_own_key p.0 ≡ false → value_of key e ≡ None → value_at o p.1 (value_of key e) ≡ None
+      by_order Less k other more = refl
+      by_order Equal k other more = absurd (true≢false (sym own ∙ ap is_own_key (exact_bytes key p.0 k) ∙ other))
+      by_order Greater k other more = more
 
 -- ---- pairs in their order, one after another
 

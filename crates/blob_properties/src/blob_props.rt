@@ -28,22 +28,22 @@ impl Model for BlobProps {
     ghost Value = { Props };
 
     ghost view = { λ p. record {
-        key = p.key;
-        content_type = p.content_type;
-        size = p.size;
-        sha1 = p.sha1;
-        stamp = p.stamp;
-        deleted = p.deleted;
-        others = p.others;
+      key = p.key;
+      content_type = p.content_type;
+      size = p.size;
+      sha1 = p.sha1;
+      stamp = p.stamp;
+      deleted = p.deleted;
+      others = p.others;
     } };
 
     ghost invariant = { λ p. IsInRange (record {
-        key = p.key;
-        content_type = p.content_type;
-        size = p.size;
-        sha1 = p.sha1;
-        stamp = p.stamp;
-        deleted = p.deleted;
-        others = p.others;
+      key = p.key;
+      content_type = p.content_type;
+      size = p.size;
+      sha1 = p.sha1;
+      stamp = p.stamp;
+      deleted = p.deleted;
+      others = p.others;
     }) };
 }

@@ -19,14 +19,16 @@ mod deleted;
 mod found;
 mod laws;
 mod own_keys;
+mod pairs;
 mod props_read;
 mod reading;
 mod reason;
 mod required;
+#[cfg(test)]
+mod tests;
 mod texts;
-mod values;
-mod pairs;
 mod to_pairs_err;
+mod values;
 
 pub use blob_props::BlobProps;
 pub use blob_props_err::BlobPropsErr;
@@ -40,5 +42,4 @@ pub use reading::read_blob;
 pub use reason::Reason;
 pub use required::of_pairs;
 pub use texts::{marked_text, unmarked_text};
-
 pub use to_pairs_err::ToPairsErr;

@@ -4,13 +4,21 @@ ghost use Rattle.nx_base.specs.Texts.{same_name};
 ghost use Rattle.blob_properties.specs.Keys.{is_asset_key, is_content_key, is_mark_key, is_own_key};
 
 pub const PATH: &str = "@BlobStore.blob-name";
+
 pub const CONTENT_TYPE: &str = "@BlobStore.content-type";
+
 pub const REPO: &str = "@Bucket.repo-name";
+
 pub const STAMP: &str = "creationTime";
+
 pub const SHA1: &str = "sha1";
+
 pub const SIZE: &str = "size";
+
 pub const DELETED: &str = "deleted";
+
 pub const DATE: &str = "deletedDateTime";
+
 pub const REASON: &str = "deletedReason";
 
 // Whether the two texts are the same.

@@ -19,6 +19,7 @@ const MOST_PAIRS: usize = 256;
 
 /// How many pairs there are beside the other ones, without a mark and with one.
 const PLAIN_PAIRS: usize = 6;
+
 const MARKED_PAIRS: usize = 9;
 
 /// Sets the value of a key, where there is room for one more.
@@ -83,7 +84,12 @@ pub fn plain_pairs(alloc: Global, props: &BlobProps) -> Result<Pairs, NoMemory>
     let size = number_text(alloc, props.size)?;
     let mut pairs = copied(alloc, &props.others)?;
     put(alloc, &mut pairs, own_keys::PATH, props.key.path.as_str())?;
-    put(alloc, &mut pairs, own_keys::CONTENT_TYPE, props.content_type.as_str())?;
+    put(
+        alloc,
+        &mut pairs,
+        own_keys::CONTENT_TYPE,
+        props.content_type.as_str(),
+    )?;
     put(alloc, &mut pairs, own_keys::REPO, props.key.repo.as_str())?;
     put(alloc, &mut pairs, own_keys::STAMP, stamp.as_str())?;
     put(alloc, &mut pairs, own_keys::SHA1, sha1.as_str())?;
@@ -106,7 +112,11 @@ pub fn put_mark(alloc: Global, pairs: &mut Pairs, date: &str, reason: &str) -> R
 fn own_pairs(props: &BlobProps) -> usize
     ensures { result ≡ (if is_some props.now.deleted then 9 else 6) }
 {
-    if props.deleted.is_some() { MARKED_PAIRS } else { PLAIN_PAIRS }
+    if props.deleted.is_some() {
+        MARKED_PAIRS
+    } else {
+        PLAIN_PAIRS
+    }
 }
 
 /// The pairs of a blob's properties, where there is room for them.

@@ -19,7 +19,9 @@ const LONGEST: usize = 65536;
 
 /// A time of 15 digits, and a reason of 100 bytes.
 const DATE: &str = "999999999999999";
-const REASON: &str = "xxxxxxxxxxxxxxxxxxxxxxxxxxxxxxxxxxxxxxxxxxxxxxxxxxxxxxxxxxxxxxxxxxxxxxxxxxxxxxxxxxxxxxxxxxxxxxxxxxxx";
+
+const REASON: &str =
+    "xxxxxxxxxxxxxxxxxxxxxxxxxxxxxxxxxxxxxxxxxxxxxxxxxxxxxxxxxxxxxxxxxxxxxxxxxxxxxxxxxxxxxxxxxxxxxxxxxxxx";
 
 /// Whether there is room for a mark.
 #[tactic(auto, unfolding(crate::specs::Readable::longest_text))]

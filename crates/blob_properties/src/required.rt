@@ -13,10 +13,9 @@ ghost use Rattle.blob_properties.specs.FromPairs.{Gives, meant, required, mark_o
 use crate::blob_props::BlobProps;
 use crate::blob_props_err::BlobPropsErr;
 use crate::deleted::Deleted;
-use crate::own_keys;
 use crate::pairs::put;
 use crate::reason::Reason;
-use crate::values;
+use crate::{own_keys, values};
 use java_props::Pairs;
 use nx_base::{AssetPath, ContentType, Key, NameErr, NoMemory, RepoName};
 use std::alloc::Global;

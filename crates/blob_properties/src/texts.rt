@@ -32,7 +32,12 @@ pub fn written_text(alloc: Global, pairs: &Pairs) -> Result<Vec<u8>, NoMemory>
 }
 
 /// The pairs with a mark of that time and reason.
-pub fn marked_pairs(alloc: Global, props: &BlobProps, date: &str, reason: &str) -> Result<Pairs, NoMemory>
+pub fn marked_pairs(
+    alloc: Global,
+    props: &BlobProps,
+    date: &str,
+    reason: &str,
+) -> Result<Pairs, NoMemory>
     requires { length props.now.others ≤ 247 }
     ensures pairs { IfOk result (λ pairs. pairs ≡ marked_entries date.now reason.now (plain_entries props.now)) }
     ensures blob { IfOk result (λ _. IsProps props.now) }
@@ -46,7 +51,12 @@ pub fn marked_pairs(alloc: Global, props: &BlobProps, date: &str, reason: &str) 
 ///
 /// Of a readable blob there is always such a text, and it is readable again and says just that mark, where the reason has at
 /// most 100 bytes as it is written.
-pub fn marked_text(alloc: Global, props: &BlobProps, reason: &str, at: u64) -> Result<Vec<u8>, ToPairsErr>
+pub fn marked_text(
+    alloc: Global,
+    props: &BlobProps,
+    reason: &str,
+    at: u64,
+) -> Result<Vec<u8>, ToPairsErr>
     requires time { at < 2 ^ 48 }
     ensures text { IfOk result (λ text. text.items ≡ marked_text_of props.now reason.now at) }
     ensures full { IsErrOf result refused.Full ↔ (247 < length props.now.others) }
