@@ -1,0 +1,8 @@
+pub mod Words
+pub mod Keys
+pub mod Lists
+pub mod Values
+pub mod Table
+pub mod Settings
+pub mod Refusals
+pub mod Reading
