@@ -1,7 +1,7 @@
 -- The keys of the configuration: `<word>` alone, `store.<name>.<word>` and `repo.<name>.<word>`. The name is what stands
 -- between the first and the last dot, so it may hold dots itself.
-use Rattle.std.specs.Prelude.{ℕ, Bool, not, ◌==◌, List, ◌∷◌, ◌++◌, Option, Some, None, codes, if◌then◌else◌}
-use Rattle.std.specs.List.{before_first, after_first, before_last, after_last, list_any}
+use Rattle.std.specs.Prelude.{ℕ, Bool, not, ◌==◌, nat_lt, List, length, ◌∷◌, ◌++◌, Option, Some, None, codes, if◌then◌else◌}
+use Rattle.std.specs.List.{before_first, after_first, before_last, after_last, position_or_len}
 use Rattle.nx_base.specs.Texts.{same_name}
 use Rattle.repo_config.specs.declared.form.Subject.{Subject}
 use Rattle.repo_config.specs.declared.form.Subject.TheVariants.{OfAll, OfStore, OfRepo}
@@ -11,8 +11,9 @@ use Rattle.repo_config.specs.Words.{text}
 abbrev pub is_dot : ℕ → Bool
 is_dot b = b == 46
 
+-- a dot stands in it
 abbrev pub has_dot : List ℕ → Bool
-has_dot key = list_any is_dot key
+has_dot key = nat_lt (position_or_len is_dot key) (length key)
 
 -- what stands before the first dot
 abbrev pub head_of : List ℕ → List ℕ

@@ -6,3 +6,5 @@ pub mod Table
 pub mod Settings
 pub mod Refusals
 pub mod Reading
+pub mod Found
+pub mod Told

@@ -1,0 +1,19 @@
+-- What refusals tell.
+use Rattle.std.specs.Prelude.{◌≡◌, ◌⊎◌, ℕ, List, Option, Some, None}
+use Rattle.repo_config.specs.declared.config_err.ConfigErr.{ConfigErr}
+use Rattle.repo_config.specs.declared.config_err.ConfigErr.TheVariants.{Props, UnknownKey, BadValue, DuplicateName, NoStore, NestedGroup, StoreInTwoGroups, NoMemory}
+
+-- the key of which a refusal speaks
+abbrev pub key_told : ConfigErr → Option (List ℕ)
+key_told (Props e) = None
+key_told (UnknownKey key) = Some key
+key_told (BadValue key) = Some key
+key_told (DuplicateName key) = Some key
+key_told (NoStore key) = Some key
+key_told (NestedGroup key) = Some key
+key_told (StoreInTwoGroups key) = Some key
+key_told NoMemory = None
+
+-- the refusal that is wanted, or want of memory
+abbrev pub Tells : ConfigErr → ConfigErr → Type 0
+Tells wanted e = (e ≡ NoMemory) ⊎ (e ≡ wanted)
