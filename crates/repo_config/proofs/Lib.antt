@@ -1,3 +1,6 @@
 pub mod Texts
 pub mod Numbers
 pub mod Sets
+pub mod Firsts
+pub mod Passed
+pub mod StoreKeys

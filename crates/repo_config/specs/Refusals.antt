@@ -90,11 +90,14 @@ test_missing pairs =
     option_or (first_refusal (missing_refusal OfStore pairs) (declared OfStore pairs))
     (first_refusal (missing_refusal OfRepo pairs) (declared OfRepo pairs))
 
--- the keys of the stores of the declared repositories, in byte order. One that isn't there counts as the empty text.
+-- the keys of the stores of some repositories, in byte order. One that isn't there counts as the empty text.
+abbrev pub store_keys_of : Entries → List (List ℕ) → Entries
+store_keys_of pairs names =
+    fold (λ keys name. put (key_text OfRepo name word.Store) (text_at pairs (key_text OfRepo name word.Store)) keys) [] names
+
+-- those of all declared repositories
 abbrev pub store_keys : Entries → Entries
-store_keys pairs =
-    fold (λ keys name. put (key_text OfRepo name word.Store) (text_at pairs (key_text OfRepo name word.Store)) keys) []
-    (declared OfRepo pairs)
+store_keys pairs = store_keys_of pairs (declared OfRepo pairs)
 
 abbrev pub store_refusal : Entries → List ℕ × List ℕ → Option ConfigErr
 store_refusal pairs pair = if has_name (declared OfStore pairs) pair.1 then None else Some (NoStore pair.0)

@@ -1,7 +1,8 @@
 -- What the pairs of a text set. A key that isn't there counts as its row in the table says, and so does a kind, a layout or
 -- a number that isn't good: such a text is refused, but until then other keys are tested beside it.
 use Rattle.std.specs.Prelude.{ℕ, Bool, true, false, List, [], ◌∷◌, fold, find, map, Option, Some, None, unwrap_or, codes}
-use Rattle.std.specs.Option.{option_and_then}
+use Rattle.std.specs.Option.{option_and_then, option_map}
+use Rattle.std.specs.Map.{lookup}
 use Rattle.std.specs.BTreeMap.{insert_entry}
 use Rattle.nx_base.specs.declared.layout.Layout.{Layout}
 use Rattle.nx_base.specs.declared.layout.Layout.TheVariants.{Volume}
@@ -158,3 +159,29 @@ settings digest pairs = record {
   journal = journal_of pairs;
   sha1 = digest;
 }
+
+-- the repository of that name, if it is declared
+abbrev pub repo_at : Settings → List ℕ → Option Repository
+repo_at settings name = lookup (same_name name) settings.repos
+
+-- the declared store of that name
+abbrev pub store_at : Settings → List ℕ → Option Store
+store_at settings name = lookup (same_name name) settings.stores
+
+abbrev pub group_at : Settings → List ℕ → Option Group
+group_at settings name = option_map (λ store. store.group) (store_at settings name)
+
+abbrev pub layout_at : Settings → List ℕ → Option Layout
+layout_at settings name = option_and_then (λ store. store.layout) (store_at settings name)
+
+-- the store or the group that a repository writes to
+abbrev pub write_group : Repository → Option (List ℕ)
+write_group repo = repo.store
+
+abbrev pub members_of : Option Group → List (List ℕ)
+members_of None = []
+members_of (Some group) = map (λ member. member.store) group.members
+
+-- the stores of a repository: its store, or the members of its store where that is a group
+abbrev pub stores_of : Settings → Repository → List (List ℕ)
+stores_of settings repo = members_of (option_and_then (group_at settings) (write_group repo))

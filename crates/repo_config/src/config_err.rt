@@ -25,7 +25,7 @@ pub enum ConfigErr {
 }
 
 impl ConfigErr {
-    ghost use Rattle.std.specs.Prelude.{ℕ, List, Option, Some, None};
+    ghost use Rattle.std.specs.Prelude.{◌≡◌};
     ghost use Rattle.std.specs.Option.{option_copied};
     ghost use Rattle.repo_config.specs.declared.config_err.ConfigErr.TheVariants as refused;
     ghost use Rattle.repo_config.specs.Told.{Tells, key_told};
