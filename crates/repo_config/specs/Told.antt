@@ -1,5 +1,6 @@
 -- What refusals tell.
 use Rattle.std.specs.Prelude.{◌≡◌, ◌⊎◌, ℕ, List, Option, Some, None}
+use Rattle.java_props.specs.Reading.{Refuses}
 use Rattle.repo_config.specs.declared.config_err.ConfigErr.{ConfigErr}
 use Rattle.repo_config.specs.declared.config_err.ConfigErr.TheVariants.{Props, UnknownKey, BadValue, DuplicateName, NoStore, NestedGroup, StoreInTwoGroups, NoMemory}
 
@@ -17,3 +18,14 @@ key_told NoMemory = None
 -- the refusal that is wanted, or want of memory
 abbrev pub Tells : ConfigErr → ConfigErr → Type 0
 Tells wanted e = (e ≡ NoMemory) ⊎ (e ≡ wanted)
+
+-- the refusal of a text as a properties text
+abbrev pub TellsProps : List ℕ → ConfigErr → Type 0
+TellsProps bytes (Props e) = Refuses bytes e
+TellsProps bytes (UnknownKey key) = ⊥
+TellsProps bytes (BadValue key) = ⊥
+TellsProps bytes (DuplicateName key) = ⊥
+TellsProps bytes (NoStore key) = ⊥
+TellsProps bytes (NestedGroup key) = ⊥
+TellsProps bytes (StoreInTwoGroups key) = ⊥
+TellsProps bytes NoMemory = ⊥

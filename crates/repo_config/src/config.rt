@@ -1,11 +1,14 @@
-ghost use Rattle.std.specs.Prelude.{◌≡◌, map, IfOk, IfErr};
+ghost use Rattle.std.specs.Prelude.{◌≡◌, IfOk, IfErr};
 ghost use Rattle.std.specs.Option.{option_copied};
 ghost use Rattle.repo_config.specs.Settings.{repo_at, group_at, layout_at};
 
+use crate::config_err::ConfigErr;
 use crate::group::Group;
+use crate::read::read_config;
 use crate::repo::Repo;
 use crate::store::Store;
 use nx_base::{Layout, RepoName, StoreName};
+use std::alloc::Global;
 use std::collections::BTreeMap;
 use std::marker::Model;
 
@@ -28,6 +31,22 @@ impl Model for Config {
 }
 
 impl Config {
+    ghost use Rattle.std.specs.Prelude.{◌⊎◌};
+    ghost use Rattle.repo_config.specs.declared.config_err.ConfigErr.TheVariants as refused;
+    ghost use Rattle.repo_config.specs.Reading.{Configures, IsRefused};
+
+    /// Reads the text of a configuration. `docs/CONFIGURATION.md` says what stands in one.
+    ///
+    /// Of several refusals the first is told: that of the text as a properties text; then each key
+    /// in byte order, as `UnknownKey`, `DuplicateName` or `BadValue`; then required keys that aren't
+    /// there; then the stores of repositories, as `NoStore`.
+    pub fn read(alloc: Global, bytes: &[u8]) -> Result<Config, ConfigErr>
+        ensures ok { IfOk result (λ config. Configures bytes.now config) }
+        ensures err { IfErr result (λ e. (e ≡ refused.NoMemory) ⊎ IsRefused bytes.now e) }
+    {
+        read_config(alloc, bytes)
+    }
+
     /// The repository of that name, if it is declared.
     pub fn repo(&self, name: &RepoName) -> Option<&Repo>
         ensures { option_copied result ≡ repo_at self.now name.now }

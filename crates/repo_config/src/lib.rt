@@ -1,6 +1,7 @@
 //! The configuration of a repository server, read from a properties text.
 #![tactic(auto)]
 
+mod build;
 mod checks;
 mod config;
 mod config_err;
@@ -9,6 +10,7 @@ mod group;
 mod key;
 mod key_text;
 mod names;
+mod read;
 mod repo;
 mod settings;
 mod store;
