@@ -1,9 +1,10 @@
 -- What is known of pairs whose keys are all accepted: the lists are good.
-use Rattle.std.proofs.Common.{◌≡◌, ◌∙◌, ap, sym, refl, subst, ℕ, ◌+◌, ◌≤◌, List, [], ◌∷◌, Bool, true, false, not, cond, ◌&&◌, ◌||◌, length, filter, Option, Some, None, arith, leb, codes, unwrap_or}
+use Rattle.std.proofs.Common.{◌≡◌, ◌∙◌, ap, sym, refl, subst, ℕ, suc, ◌+◌, ◌<◌, ◌≤◌, map, drop, get_or, List, [], ◌∷◌, Bool, true, false, not, cond, ◌&&◌, ◌||◌, length, filter, Option, Some, None, arith, leb, codes, unwrap_or}
 use Rattle.std.specs.List.{list_all}
 use Rattle.std.specs.declared.cmp.Ordering.{Ordering}
 use Rattle.std.specs.declared.cmp.Ordering.TheVariants.{Less, Equal, Greater}
 use Rattle.std.specs.Ordering.{is_eq}
+use Rattle.std.proofs.Math.Seq.{drop-cons}
 use Rattle.std.proofs.lemmas.Bool.{ne_eqb}
 use Rattle.std.proofs.lemmas.Bool.Decides.{nat_tests}
 use Rattle.java_props.specs.Kept.{Entries, text_cmp, value_at, value_of}
@@ -109,3 +110,9 @@ names_named subject (x ∷ xs) e =
 
 pub few_repos : (pairs : Entries) → test_keys pairs ≡ None → length (declared OfRepo pairs) ≤ 64
 few_repos pairs none = names_few OfRepo (text_at pairs (codes "repositories")) (repos_good pairs none)
+
+-- where all elements from a place on pass, the one at it does
+pub all_at : {A B : Type 0} (p : B → Bool) (g : A → B) (xs : List A) (i : ℕ) (d : A) → i < length xs → list_all p (map g (drop i xs)) ≡ true → p (g (get_or xs i d)) ≡ true
+all_at p g xs i d h e =
+    left_true (p (g (get_or xs i d))) (list_all p (map g (drop (suc i) xs)))
+    (ap (λ ys. list_all p (map g ys)) (sym (drop-cons xs i d h)) ∙ e)

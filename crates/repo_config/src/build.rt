@@ -20,6 +20,18 @@ use nx_base::{Fill, Member, NameErr, NoMemory, Policy, RepoKind, RepoName, Store
 use std::alloc::Global;
 use std::collections::BTreeMap;
 
+/// A good name of a store.
+fn store_name(alloc: Global, name: &str) -> Result<StoreName, NoMemory>
+    requires { may_name OfStore name.now ≡ true }
+    ensures { IfOk result (λ store. store ≡ name.now) }
+{
+    match StoreName::parse(alloc, name.as_bytes()) {
+        Ok(store) => Ok(store),
+        Err(NameErr::NoMemory) => Err(NoMemory),
+        Err(_) => unreachable!(),
+    }
+}
+
 /// Stores of these names, each of which is a good one.
 fn store_names(alloc: Global, names: &[&str]) -> Result<Vec<StoreName>, NoMemory>
     requires { list_all (may_name OfStore) (map (λ name. name.now) names.now) ≡ true }
@@ -27,16 +39,24 @@ fn store_names(alloc: Global, names: &[&str]) -> Result<Vec<StoreName>, NoMemory
 {
     let mut stores = Vec::new(alloc);
     for name in names {
-        let store = match StoreName::parse(alloc, name.as_bytes()) {
-            Ok(store) => store,
-            Err(NameErr::NoMemory) => return Err(NoMemory),
-            Err(_) => unreachable!(),
-        };
+        let store = store_name(alloc, name)?;
         if stores.push(store).is_err() {
             return Err(NoMemory);
         }
     }
     Ok(stores)
+}
+
+/// A good name of a repository.
+fn repo_name(alloc: Global, name: &str) -> Result<RepoName, NoMemory>
+    requires { may_name OfRepo name.now ≡ true }
+    ensures { IfOk result (λ repo. repo ≡ name.now) }
+{
+    match RepoName::parse(alloc, name.as_bytes()) {
+        Ok(repo) => Ok(repo),
+        Err(NameErr::NoMemory) => Err(NoMemory),
+        Err(_) => unreachable!(),
+    }
 }
 
 /// Repositories of these names, each of which is a good one.
@@ -46,11 +66,7 @@ fn repo_names(alloc: Global, names: &[&str]) -> Result<Vec<RepoName>, NoMemory>
 {
     let mut repos = Vec::new(alloc);
     for name in names {
-        let repo = match RepoName::parse(alloc, name.as_bytes()) {
-            Ok(repo) => repo,
-            Err(NameErr::NoMemory) => return Err(NoMemory),
-            Err(_) => unreachable!(),
-        };
+        let repo = repo_name(alloc, name)?;
         if repos.push(repo).is_err() {
             return Err(NoMemory);
         }
