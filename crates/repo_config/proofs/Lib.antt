@@ -4,3 +4,4 @@ pub mod Sets
 pub mod Firsts
 pub mod Passed
 pub mod StoreKeys
+pub mod Today

@@ -8,3 +8,4 @@ pub mod Refusals
 pub mod Reading
 pub mod Found
 pub mod Told
+pub mod Laws

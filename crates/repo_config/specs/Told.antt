@@ -29,3 +29,14 @@ TellsProps bytes (NoStore key) = ⊥
 TellsProps bytes (NestedGroup key) = ⊥
 TellsProps bytes (StoreInTwoGroups key) = ⊥
 TellsProps bytes NoMemory = ⊥
+
+-- a refusal to which keys lead today: no group is read yet
+abbrev pub IsToday : ConfigErr → Type 0
+IsToday (Props e) = Unit {0}
+IsToday (UnknownKey key) = Unit {0}
+IsToday (BadValue key) = Unit {0}
+IsToday (DuplicateName key) = Unit {0}
+IsToday (NoStore key) = Unit {0}
+IsToday (NestedGroup key) = ⊥
+IsToday (StoreInTwoGroups key) = ⊥
+IsToday NoMemory = Unit {0}

@@ -34,6 +34,7 @@ impl Config {
     ghost use Rattle.std.specs.Prelude.{◌⊎◌};
     ghost use Rattle.repo_config.specs.declared.config_err.ConfigErr.TheVariants as refused;
     ghost use Rattle.repo_config.specs.Reading.{Configures, IsRefused};
+    ghost use Rattle.repo_config.specs.Told.{IsToday};
 
     /// Reads the text of a configuration. `docs/CONFIGURATION.md` says what stands in one.
     ///
@@ -43,6 +44,7 @@ impl Config {
     pub fn read(alloc: Global, bytes: &[u8]) -> Result<Config, ConfigErr>
         ensures ok { IfOk result (λ config. Configures bytes.now config) }
         ensures err { IfErr result (λ e. (e ≡ refused.NoMemory) ⊎ IsRefused bytes.now e) }
+        ensures today { IfErr result IsToday }
     {
         read_config(alloc, bytes)
     }
