@@ -1,0 +1,4 @@
+pub mod CutLemmas
+pub mod Limits
+pub mod Appends
+pub mod Refusals
