@@ -22,9 +22,13 @@ sized put (Some n) =
     if put then (if nat_le n content_limit then Ok (framings.Length n) else Err BodyTooLarge)
     else (if n == 0 then Ok (framings.Length n) else Err BadLength)
 
+-- neither
+abbrev pub unframed : Bool → Result Framing HeadErr
+unframed put = if put then Err LengthRequired else Ok framings.None
+
 -- the framing, or why there is none, by the version, the values of Content-Length and those of Transfer-Encoding
 unfoldable pub framing_of : Bool → ℕ → List (List ℕ) → List (List ℕ) → Result Framing HeadErr
-framing_of put minor [] [] = if put then Err LengthRequired else Ok framings.None
+framing_of put minor [] [] = unframed put
 framing_of put minor [] (coding ∷ []) = coded put minor coding
 framing_of put minor [] (coding ∷ other ∷ more) = Err BadCoding
 framing_of put minor (text ∷ []) [] = sized put (decimal_of text)

@@ -1,5 +1,5 @@
 ghost use Rattle.std.specs.Prelude.{◌≡◌, ℕ, List, codes};
-ghost use Rattle.http_heads.specs.Framings.{coded, sized, framing_of};
+ghost use Rattle.http_heads.specs.Framings.{coded, sized, unframed, framing_of};
 ghost use Rattle.http_heads.specs.Kept.{values_under, IsGiven};
 
 use crate::framing::Framing;
@@ -46,14 +46,24 @@ fn sized(put: bool, length: Option<u64>) -> Result<Framing, HeadErr>
     }
 }
 
+// The framing where nothing is given.
+fn unframed(put: bool) -> Result<Framing, HeadErr>
+    ensures { result ≡ unframed put }
+{
+    if put {
+        Err(HeadErr::LengthRequired)
+    } else {
+        Ok(Framing::None)
+    }
+}
+
 // The framing by what is given of lengths and of codings.
 fn framing(put: bool, minor: u8, lengths: Given, codings: Given) -> Result<Framing, HeadErr>
     ensures { (texts words : List (List ℕ)) → IsGiven texts lengths.entry → IsGiven words codings.entry → result ≡ framing_of put minor texts words }
 {
     match lengths {
         Given::Nothing => match codings {
-            Given::Nothing if put => Err(HeadErr::LengthRequired),
-            Given::Nothing => Ok(Framing::None),
+            Given::Nothing => unframed(put),
             Given::One(coding) => coded(put, minor, coding),
             Given::Several => Err(HeadErr::BadCoding),
         },

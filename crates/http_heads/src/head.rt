@@ -1,9 +1,8 @@
-ghost use Rattle.std.specs.Prelude.{◌≡◌, length, map, All};
-ghost use Rattle.httparse.specs.Spans.{IsWithin, IsHeaderWithin, header_bytes};
+ghost use Rattle.std.specs.Prelude.{◌≡◌, ◌↔◌, IsTrue};
 ghost use Rattle.http_heads.specs.Head.{is_put, method_of, judge, IsTooLong, GivesHead};
+ghost use Rattle.http_heads.specs.Cut.{HasNoHead};
 ghost use Rattle.http_heads.specs.Kept.{values_kept};
 ghost use Rattle.http_heads.specs.Gives.{GivesOr};
-ghost use Rattle.std.specs.Prelude.{◌↔◌, IsTrue};
 
 use crate::cut::head_len;
 use crate::framing::Framing;
@@ -88,12 +87,22 @@ fn judge(
     })
 }
 
+// Whether no head stands in a text.
+fn has_no_head(text: &[u8]) -> bool
+    ensures { IsTrue result ↔ HasNoHead text.now }
+{
+    match head_len(text, 0) {
+        Some(_) => false,
+        None => true,
+    }
+}
+
 // Whether a text is no head because it is too long.
 #[tactic(auto, unfolding(crate::specs::Cut::head_limit))]
 fn is_too_long(text: &[u8]) -> bool
     ensures { IsTrue result ↔ IsTooLong text.now }
 {
-    text.len() > HEAD_LIMIT || (text.len() == HEAD_LIMIT && head_len(text, 0).is_none())
+    text.len() > HEAD_LIMIT || (text.len() == HEAD_LIMIT && has_no_head(text))
 }
 
 /// Reads a text as one head of a request (RFC 9112, sections 2 to 6).

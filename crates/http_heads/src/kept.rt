@@ -37,7 +37,8 @@ fn value_of(alloc: Global, text: &[u8]) -> Result<HeaderValue, NoMemory>
 
 // Keeps one more field. There is always room for so few.
 fn keep_one(map: &mut HeaderMap, name: HeaderName, value: HeaderValue) -> Result<(), NoMemory>
-    requires { value_count map.old ≤ 64 }
+    requires names { length map.old ≤ 64 }
+    requires values { value_count map.old ≤ 64 }
     ensures { IfOk result (λ _. map.new ≡ append map.old name value) }
 {
     match map.append(name, value) {
@@ -54,7 +55,7 @@ pub(crate) fn keep(
     fields: &[HeaderSpan],
 ) -> Result<HeaderMap, NoMemory>
     requires within { All (IsHeaderWithin (length text.now)) fields.now }
-    requires keepable { All IsKeepable (map (header_bytes text.now) fields.now) }
+    requires keepable { All (λ field. IsKeepable (header_bytes text.now field)) fields.now }
     requires few { length fields.now ≤ 64 }
     ensures { IfOk result (λ kept. Keeps kept (map (header_bytes text.now) fields.now)) }
 {

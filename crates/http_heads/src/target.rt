@@ -1,8 +1,10 @@
-ghost use Rattle.std.specs.Prelude.{◌≡◌};
+ghost use Rattle.std.specs.Prelude.{◌≡◌, ◌==◌, ◌≤◌, length, Result};
+ghost use Rattle.std.specs.List.{position_or_len};
 ghost use Rattle.percent_encoding.specs.Percent.{percent_decode};
 ghost use Rattle.nx_base.specs.NameErr.{Gives};
+ghost use Rattle.nx_base.specs.declared.name_err.NameErr.{NameErr};
 ghost use Rattle.nx_base.specs.Paths.{path_of};
-ghost use Rattle.http_heads.specs.Target.{text_before, text_behind, named_key, key_of, IsNoKey};
+ghost use Rattle.http_heads.specs.Target.{text_before, text_behind, or_bad_path, named_key, key_of};
 ghost use Rattle.http_heads.specs.Gives.{GivesOr};
 
 use crate::head_err::HeadErr;
@@ -12,59 +14,67 @@ use std::alloc::Global;
 
 const ROOT: &[u8; 12] = b"/repository/";
 
-// What stands before the first byte of that value.
+// Where the first byte of that value stands, or the text's length.
+fn place_of(text: &[u8], byte: u8) -> usize
+    ensures within { result ≤ length text.now }
+    ensures place { result ≡ position_or_len (λ b. b == byte) text.now }
+{
+    for (at, b) in text.iter().enumerate() {
+        if *b == byte {
+            return at;
+        }
+    }
+    text.len()
+}
+
+// What stands before it.
 fn before(text: &[u8], byte: u8) -> &[u8]
     ensures { result.now ≡ text_before byte text.now }
 {
-    match text.iter().position(|b| *b == byte) {
-        Some(at) => &text[..at],
-        None => text,
-    }
+    &text[..place_of(text, byte)]
 }
 
 // What stands behind it.
 fn behind(text: &[u8], byte: u8) -> &[u8]
     ensures { result.now ≡ text_behind byte text.now }
 {
-    match text.iter().position(|b| *b == byte) {
-        Some(at) => &text[at + 1..],
-        None => &text[text.len()..],
+    let at = place_of(text, byte);
+    if at == text.len() {
+        return &text[at..];
+    }
+    &text[at + 1..]
+}
+
+// A name or a path that was read; no other refusal than `BadPath` comes of it.
+fn or_bad_path<T: Drop>(read: Result<T, NameErr>) -> Result<T, HeadErr>
+    ensures { (wanted : Result T NameErr) → Gives wanted read → GivesOr (or_bad_path wanted) result }
+{
+    match read {
+        Ok(name) => Ok(name),
+        Err(NameErr::NoMemory) => Err(HeadErr::NoMemory),
+        Err(_) => Err(HeadErr::BadPath),
     }
 }
 
 // The path that percent-encoded bytes name, decoded once.
-fn decoded_path(alloc: Global, text: &[u8]) -> Result<AssetPath, NameErr>
-    ensures { Gives (path_of (percent_decode text.now)) result }
+fn read_path(alloc: Global, text: &[u8]) -> Result<AssetPath, HeadErr>
+    ensures { GivesOr (or_bad_path (path_of (percent_decode text.now))) result }
 {
     let mut decoded = Vec::new(alloc);
     match percent_decode(text).append_to(&mut decoded) {
-        Ok(()) => AssetPath::parse(alloc, &decoded),
-        Err(_) => Err(NameErr::NoMemory),
+        Ok(()) => or_bad_path(AssetPath::parse(alloc, &decoded)),
+        Err(_) => Err(HeadErr::NoMemory),
     }
 }
 
 // The key that stands behind `/repository/`.
+#[tactic(auto, unfolding(crate::specs::Target::named_key))]
 fn read_key(alloc: Global, text: &[u8]) -> Result<Key, HeadErr>
     ensures { GivesOr (named_key text.now) result }
 {
-    let repo = match RepoName::parse(alloc, before(text, b'/')) {
-        Ok(repo) => repo,
-        Err(why) => return Err(no_key(why)),
-    };
-    match decoded_path(alloc, behind(text, b'/')) {
-        Ok(path) => Ok(Key { repo, path }),
-        Err(why) => Err(no_key(why)),
-    }
-}
-
-// Why a target names no key, where a name or a path was refused.
-fn no_key(why: NameErr) -> HeadErr
-    ensures { IsNoKey why result }
-{
-    match why {
-        NameErr::NoMemory => HeadErr::NoMemory,
-        _ => HeadErr::BadPath,
-    }
+    let repo = or_bad_path(RepoName::parse(alloc, before(text, b'/')))?;
+    let path = read_path(alloc, behind(text, b'/'))?;
+    Ok(Key { repo, path })
 }
 
 /// The key that a target names.

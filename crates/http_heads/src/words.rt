@@ -49,10 +49,13 @@ fn skip_blank(text: &[u8]) -> &[u8]
 pub(crate) fn trimmed(text: &[u8]) -> &[u8]
     ensures { result.now ≡ trim_ows text.now }
 {
-    let text = skip_blank(text);
-    let mut end = text.len();
-    while end > 0 && is_blank(text[end - 1]) {
+    let front = skip_blank(text);
+    let mut end = front.len();
+    while end > 0 {
+        if !is_blank(front[end - 1]) {
+            return &front[..end];
+        }
         end -= 1;
     }
-    &text[..end]
+    &front[..0]
 }
