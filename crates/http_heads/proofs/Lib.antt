@@ -6,3 +6,6 @@ pub mod WordLemmas
 pub mod HeadParts
 pub mod FramingLemmas
 pub mod KeptLemmas
+pub mod OptionLemmas
+pub mod JudgeLemmas
+pub mod ReadLemmas

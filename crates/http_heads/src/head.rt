@@ -10,7 +10,7 @@ use crate::framing_rule::read_framing;
 use crate::head_err::HeadErr;
 use crate::kept::keep;
 use crate::method::Method;
-use crate::options::{any_close, read_type, wants_continue};
+use crate::options::{closes, expects, read_type};
 use crate::parse::{Parse, parse_head};
 use crate::target::read_target;
 use http_header::HeaderMap;
@@ -82,8 +82,8 @@ fn judge(
         key,
         framing,
         content_type,
-        expects: put && minor == 1 && wants_continue(kept),
-        closes: minor == 0 || any_close(kept),
+        expects: expects(put, minor, kept),
+        closes: closes(minor, kept),
     })
 }
 

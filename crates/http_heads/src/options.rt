@@ -1,10 +1,10 @@
-ghost use Rattle.std.specs.Prelude.{◌≡◌, codes, IfOk};
+ghost use Rattle.std.specs.Prelude.{◌≡◌, ◌==◌, ◌&&◌, ◌||◌, codes, IfOk};
 ghost use Rattle.http_heads.specs.Kept.{values_under};
 ghost use Rattle.http_heads.specs.Options.{octets, type_of, wants_continue, has_close, any_close};
 
 use crate::accepted::accepted;
 use crate::kept::first;
-use crate::words::{same_word, trimmed};
+use crate::words::{place_of, same_word, trimmed};
 use http_header::HeaderMap;
 use nx_base::{ContentType, NoMemory};
 use std::alloc::Global;
@@ -32,8 +32,8 @@ pub(crate) fn read_type(alloc: Global, kept: &HeaderMap) -> Result<ContentType, 
     }
 }
 
-/// Whether the first value of Expect asks for `100 Continue`.
-pub(crate) fn wants_continue(kept: &HeaderMap) -> bool
+// Whether the first value of Expect asks for `100 Continue`.
+fn wants_continue(kept: &HeaderMap) -> bool
     ensures { result ≡ wants_continue (values_under (codes "expect") kept.now) }
 {
     match first(kept, "expect") {
@@ -43,17 +43,24 @@ pub(crate) fn wants_continue(kept: &HeaderMap) -> bool
 }
 
 // Whether a value of Connection has the member `close`.
-#[tactic(auto, unfolding(crate::specs::Options::has_close))]
 fn has_close(value: &[u8]) -> bool
     ensures { result ≡ has_close value.now }
 {
-    value
-        .split(|byte| *byte == b',')
-        .any(|member| same_word(trimmed(member), b"close"))
+    let mut rest = value;
+    'members: loop {
+        let at = place_of(rest, b',');
+        if same_word(trimmed(&rest[..at]), b"close") {
+            return true;
+        }
+        if at == rest.len() {
+            return false;
+        }
+        rest = &rest[at + 1..];
+    }
 }
 
-/// Whether a value of Connection has it.
-pub(crate) fn any_close(kept: &HeaderMap) -> bool
+// Whether a value of Connection has it.
+fn any_close(kept: &HeaderMap) -> bool
     ensures { result ≡ any_close (values_under (codes "connection") kept.now) }
 {
     for value in kept.get_all("connection") {
@@ -62,4 +69,18 @@ pub(crate) fn any_close(kept: &HeaderMap) -> bool
         }
     }
     false
+}
+
+/// Whether a request waits for `100 Continue`: a PUT in HTTP/1.1 that asks for it.
+pub(crate) fn expects(put: bool, minor: u8, kept: &HeaderMap) -> bool
+    ensures { result ≡ ((put && minor == 1) && wants_continue (values_under (codes "expect") kept.now)) }
+{
+    put && minor == 1 && wants_continue(kept)
+}
+
+/// Whether a request closes: it is HTTP/1.0, or says so.
+pub(crate) fn closes(minor: u8, kept: &HeaderMap) -> bool
+    ensures { result ≡ (minor == 0 || any_close (values_under (codes "connection") kept.now)) }
+{
+    minor == 0 || any_close(kept)
 }

@@ -1,5 +1,4 @@
-ghost use Rattle.std.specs.Prelude.{◌≡◌, ◌==◌, ◌≤◌, length, Result};
-ghost use Rattle.std.specs.List.{position_or_len};
+ghost use Rattle.std.specs.Prelude.{◌≡◌, Result};
 ghost use Rattle.percent_encoding.specs.Percent.{percent_decode};
 ghost use Rattle.nx_base.specs.NameErr.{Gives};
 ghost use Rattle.nx_base.specs.declared.name_err.NameErr.{NameErr};
@@ -8,26 +7,14 @@ ghost use Rattle.http_heads.specs.Target.{text_before, text_behind, or_bad_path,
 ghost use Rattle.http_heads.specs.Gives.{GivesOr};
 
 use crate::head_err::HeadErr;
+use crate::words::place_of;
 use nx_base::{AssetPath, Key, NameErr, RepoName};
 use percent_encoding::percent_decode;
 use std::alloc::Global;
 
 const ROOT: &[u8; 12] = b"/repository/";
 
-// Where the first byte of that value stands, or the text's length.
-fn place_of(text: &[u8], byte: u8) -> usize
-    ensures within { result ≤ length text.now }
-    ensures place { result ≡ position_or_len (λ b. b == byte) text.now }
-{
-    for (at, b) in text.iter().enumerate() {
-        if *b == byte {
-            return at;
-        }
-    }
-    text.len()
-}
-
-// What stands before it.
+// What stands before the first byte of that value.
 fn before(text: &[u8], byte: u8) -> &[u8]
     ensures { result.now ≡ text_before byte text.now }
 {

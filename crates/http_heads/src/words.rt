@@ -1,4 +1,5 @@
-ghost use Rattle.std.specs.Prelude.{◌≡◌};
+ghost use Rattle.std.specs.Prelude.{◌≡◌, ◌==◌, ◌≤◌, length};
+ghost use Rattle.std.specs.List.{position_or_len};
 ghost use Rattle.httparse.specs.Grammar.{is_ows, skip_ows, trim_ows};
 ghost use Rattle.http_heads.specs.Fields.{same_word, decimal_of};
 
@@ -58,4 +59,17 @@ pub(crate) fn trimmed(text: &[u8]) -> &[u8]
         end -= 1;
     }
     &front[..0]
+}
+
+/// Where the first byte of that value stands, or the text's length.
+pub(crate) fn place_of(text: &[u8], byte: u8) -> usize
+    ensures within { result ≤ length text.now }
+    ensures place { result ≡ position_or_len (λ b. b == byte) text.now }
+{
+    for (at, b) in text.iter().enumerate() {
+        if *b == byte {
+            return at;
+        }
+    }
+    text.len()
 }

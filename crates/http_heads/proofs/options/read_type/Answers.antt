@@ -2,7 +2,7 @@ use Rattle.std.proofs.Common.{◌≡◌, ℕ, List, Option, Some, None, unwrap_o
 use Rattle.std.specs.Result.{result_ok}
 use Rattle.nx_base.specs.ContentTypes.{content_type_of}
 use Rattle.http_heads.specs.Options.{octets}
-use Rattle.http_heads.proofs.HeadParts.{type_of-first}
+use Rattle.http_heads.proofs.HeadParts.{type_of-first, type_of-none}
 use Rattle.http_heads.proofs.options.read_type.Goals as goal
 
 pub returns-in-Some-2 : goal.returns-in-Some-2
@@ -18,3 +18,5 @@ returns-in-None c =
     let same = ap (λ (t : Option (List ℕ)). unwrap_or t octets) given ∙ type_of-first _ c.in-Some.text.now c.in-Some.ensures in
     subst (λ (l : List ℕ). IfOk c.octets-in-None.result (λ t. t ≡ l)) same c.octets-in-None.ensures
 
+pub returns-in_default : goal.returns-in_default
+returns-in_default c = subst (λ (l : List ℕ). IfOk c.octets.result (λ t. t ≡ l)) (type_of-none _ c.in_default.ensures) c.octets.ensures

@@ -1,7 +1,7 @@
 use Rattle.std.proofs.Common.{ℕ, eqb, sym, arith}
 use Rattle.std.proofs.lemmas.Bool.{eq-eqb}
 use Rattle.std.proofs.lemmas.List.Sums.{position_or_len_is}
-use Rattle.http_heads.proofs.target.place_of.Goals as goal
+use Rattle.http_heads.proofs.words.place_of.Goals as goal
 
 pub returns-then-b-byte-clause-place : goal.returns-then-b-byte-clause-place
 returns-then-b-byte-clause-place c =
