@@ -71,14 +71,14 @@ unfolding texts
 keeps_more m fields field keeps name lower =
     elim (cases_Bool (same_word field.0 name)) [
       | inl same_name ↦
-        let same : lowercase field.0 ≡ name = (bytes_eq-Decides (lowercase field.0) (lowercase name)).0 same_name ∙ lower in
-        let all = ap texts (get_all-append_same m (lowercase field.0) (plain_value field.1)) ∙ map-append (λ (v : FieldValue). v.bytes) (get_all m (lowercase field.0)) (plain_value field.1 ∷ []) in
-        let at_name : values_under name (append m (lowercase field.0) (plain_value field.1)) ≡ values_under name m ++ field.1 ∷ [] =
-        subst (λ (n : List ℕ). values_under n (append m (lowercase field.0) (plain_value field.1)) ≡ values_under n m ++ field.1 ∷ []) same all in
-        at_name ∙ ap (λ (vs : List (List ℕ)). vs ++ field.1 ∷ []) (keeps name lower) ∙ sym (values_of-push_yes name fields field same_name)
+          let same : lowercase field.0 ≡ name = (bytes_eq-Decides (lowercase field.0) (lowercase name)).0 same_name ∙ lower in
+          let all = ap texts (get_all-append_same m (lowercase field.0) (plain_value field.1)) ∙ map-append (λ (v : FieldValue). v.bytes) (get_all m (lowercase field.0)) (plain_value field.1 ∷ []) in
+          let at_name : values_under name (append m (lowercase field.0) (plain_value field.1)) ≡ values_under name m ++ field.1 ∷ [] =
+          subst (λ (n : List ℕ). values_under n (append m (lowercase field.0) (plain_value field.1)) ≡ values_under n m ++ field.1 ∷ []) same all in
+          at_name ∙ ap (λ (vs : List (List ℕ)). vs ++ field.1 ∷ []) (keeps name lower) ∙ sym (values_of-push_yes name fields field same_name)
       | inr other_name ↦
-        let other : lowercase field.0 ≢ name = λ e. differ field.0 name lower e other_name in
-        ap texts (get_all-append_other m (lowercase field.0) name (plain_value field.1) other) ∙ keeps name lower ∙ sym (values_of-push_no name fields field other_name)
+          let other : lowercase field.0 ≢ name = λ e. differ field.0 name lower e other_name in
+          ap texts (get_all-append_other m (lowercase field.0) name (plain_value field.1) other) ∙ keeps name lower ∙ sym (values_of-push_no name fields field other_name)
     ]
   where
     differ : (text name : List ℕ) → map to_ascii_lowercase name ≡ name → lowercase text ≡ name → same_word text name ≡ false → ⊥

@@ -10,7 +10,6 @@ use Rattle.httparse.specs.Grammar.{trim_ows}
 use Rattle.http_heads.specs.Fields.{same_word}
 use Rattle.http_heads.specs.Options.{has_close}
 
-
 -- a value without a comma is its one member
 alone : (value : List ℕ) → length value ≤ position_or_len (λ b. eqb b 44) value → slice_split (λ b. eqb b 44) value ≡ value ∷ []
 alone value le = slice_split_none (λ b. eqb b 44) value (All-from_get_or (λ (b : ℕ). eqb b 44 ≡ false) value 0 (λ k lt. fails_before_first (λ b. eqb b 44) value k 0 (omega arith)))
@@ -36,11 +35,11 @@ pub close_here : (value : List ℕ) (at : ℕ) → at ≡ position_or_len (λ b.
 unfolding has_close
 close_here value at place le test = elim (cases_lt at (length value)) [
   | inl lt ↦
-    let parts : slice_split (λ b. eqb b 44) value ≡ take at value ∷ slice_split (λ b. eqb b 44) (drop (at + 1) value) =
-    subst (λ (n : ℕ). slice_split (λ b. eqb b 44) value ≡ take n value ∷ slice_split (λ b. eqb b 44) (drop (n + 1) value)) (sym place) (slice_split_first (λ b. eqb b 44) value 0 (omega arith)) in
-    rw parts (rw test refl)
+      let parts : slice_split (λ b. eqb b 44) value ≡ take at value ∷ slice_split (λ b. eqb b 44) (drop (at + 1) value) =
+      subst (λ (n : ℕ). slice_split (λ b. eqb b 44) value ≡ take n value ∷ slice_split (λ b. eqb b 44) (drop (n + 1) value)) (sym place) (slice_split_first (λ b. eqb b 44) value 0 (omega arith)) in
+      rw parts (rw test refl)
   | inr ge ↦
-    let member : take at value ≡ value = take_all at value (omega arith) in
-    let plain : same_word (trim_ows value) (codes "close") ≡ true = ap (λ (t : List ℕ). same_word (trim_ows t) (codes "close")) (sym member) ∙ test in
-    rw (alone value (omega arith)) (rw plain refl)
+      let member : take at value ≡ value = take_all at value (omega arith) in
+      let plain : same_word (trim_ows value) (codes "close") ≡ true = ap (λ (t : List ℕ). same_word (trim_ows t) (codes "close")) (sym member) ∙ test in
+      rw (alone value (omega arith)) (rw plain refl)
 ]

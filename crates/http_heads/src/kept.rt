@@ -6,7 +6,9 @@ ghost use Rattle.http_header.specs.FieldValue.{IsFieldValue, plain_value};
 ghost use Rattle.http_header.specs.HeaderMap.{append, value_count};
 ghost use Rattle.http_heads.specs.Kept.{values_under, IsKeepable, Keeps, IsGiven};
 
-use http_header::{HeaderMap, HeaderMapError, HeaderName, HeaderNameError, HeaderValue, HeaderValueError};
+use http_header::{
+    HeaderMap, HeaderMapError, HeaderName, HeaderNameError, HeaderValue, HeaderValueError,
+};
 use httparse::spans::HeaderSpan;
 use nx_base::NoMemory;
 use std::alloc::Global;
@@ -49,11 +51,7 @@ fn keep_one(map: &mut HeaderMap, name: HeaderName, value: HeaderValue) -> Result
 }
 
 /// Keeps the fields of a head that was read.
-pub(crate) fn keep(
-    alloc: Global,
-    text: &[u8],
-    fields: &[HeaderSpan],
-) -> Result<HeaderMap, NoMemory>
+pub(crate) fn keep(alloc: Global, text: &[u8], fields: &[HeaderSpan]) -> Result<HeaderMap, NoMemory>
     requires within { All (IsHeaderWithin (length text.now)) fields.now }
     requires keepable { All (λ field. IsKeepable (header_bytes text.now field)) fields.now }
     requires few { length fields.now ≤ 64 }

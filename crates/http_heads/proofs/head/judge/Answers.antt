@@ -27,7 +27,7 @@ returns-in_err-key c =
     elim c.in_err-key.ensures [
       | inl none ↦ inl (p.1 ∙ ap refused p.2 ∙ cc)
       | inr bad ↦
-        inr (
+          inr (
           p.1 ∙ ap refused p.2
           ∙ bad_key c.args.method.now c.args.target.now c.args.minor (values_kept c.args.kept.now) c.in_ok-method.method c.in_err-key.field-0.0 c.in_ok-method.ensures bad)
     ]
@@ -38,9 +38,9 @@ returns-in_err-framing c =
     let p = err_from_is_err_and c.from_residual-in_err-framing.result c.from_residual-in_err-framing.ensures.1 in
     let values = values_kept c.args.kept.now in
     inr (
-      p.1 ∙ ap refused p.2
-      ∙ bad_framing c.args.method.now c.args.target.now c.args.minor values c.in_ok-method.method c.in_ok-key.key c.in_err-framing.field-0.0 c.in_ok-method.ensures
-        (ok_given (key_of c.args.target.now) c.in_ok-key.key c.in_ok-key.ensures) (c.in_err-framing.ensures ∙ ap (λ (put : Bool). framing_of put c.args.minor values.lengths values.codings) c.is_put-put.ensures))
+    p.1 ∙ ap refused p.2
+    ∙ bad_framing c.args.method.now c.args.target.now c.args.minor values c.in_ok-method.method c.in_ok-key.key c.in_err-framing.field-0.0 c.in_ok-method.ensures
+    (ok_given (key_of c.args.target.now) c.in_ok-key.key c.in_ok-key.ensures) (c.in_err-framing.ensures ∙ ap (λ (put : Bool). framing_of put c.args.minor values.lengths values.codings) c.is_put-put.ensures))
 
 pub returns : goal.returns
 returns c =
@@ -57,8 +57,8 @@ returns c =
     let waits = c.expects.ensures ∙ ap (λ (put : Bool). (put && minor == 1) && wants_continue values.expectations) c.is_put-put.ensures in
     let framed = c.in_ok-framing.ensures ∙ ap (λ (put : Bool). framing_of put minor values.lengths values.codings) c.is_put-put.ensures in
     inr (
-      ap (λ (t : List ℕ). made t c.expects.result c.closes.result) c.in_ok-content_type.ensures
-      ∙ ap (λ (b : Bool). made (type_of values.types) b c.closes.result) waits
-      ∙ ap (λ (b : Bool). made (type_of values.types) ((is_put c.in_ok-method.method && minor == 1) && wants_continue values.expectations) b) c.closes.ensures
-      ∙ accepted c.args.method.now c.args.target.now minor values c.in_ok-method.method c.in_ok-key.key c.in_ok-framing.framing c.in_ok-method.ensures
-        (ok_given (key_of c.args.target.now) c.in_ok-key.key c.in_ok-key.ensures) framed)
+    ap (λ (t : List ℕ). made t c.expects.result c.closes.result) c.in_ok-content_type.ensures
+    ∙ ap (λ (b : Bool). made (type_of values.types) b c.closes.result) waits
+    ∙ ap (λ (b : Bool). made (type_of values.types) ((is_put c.in_ok-method.method && minor == 1) && wants_continue values.expectations) b) c.closes.ensures
+    ∙ accepted c.args.method.now c.args.target.now minor values c.in_ok-method.method c.in_ok-key.key c.in_ok-framing.framing c.in_ok-method.ensures
+    (ok_given (key_of c.args.target.now) c.in_ok-key.key c.in_ok-key.ensures) framed)

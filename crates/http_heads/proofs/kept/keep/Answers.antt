@@ -29,6 +29,6 @@ loop-field-preserved c =
       names = omega (arith, ap (λ (m : Entries FieldValue). length m) added, length-append_le old (lowercase field.0) (plain_value field.1), c.loop-field.invariant.names);
       values = omega (arith, ap (λ (m : Entries FieldValue). value_count m) added, value_count-append old (lowercase field.0) (plain_value field.1), c.loop-field.invariant.values);
       keeps = subst (λ (m : Entries FieldValue). Keeps m (map (header_bytes text) (take (i + 1) c.args.fields.now))) (sym added)
-        (subst (λ (fs : List Pair). Keeps (append old (lowercase field.0) (plain_value field.1)) fs) (sym (fields_more text c.args.fields.now i zero_span c.loop-field-test.true))
-        (keeps_more old (map (header_bytes text) (take i c.args.fields.now)) field c.loop-field.invariant.keeps));
+          (subst (λ (fs : List Pair). Keeps (append old (lowercase field.0) (plain_value field.1)) fs) (sym (fields_more text c.args.fields.now i zero_span c.loop-field-test.true))
+          (keeps_more old (map (header_bytes text) (take i c.args.fields.now)) field c.loop-field.invariant.keeps));
     }
