@@ -112,14 +112,14 @@ copies-length n b h = ap length (plain-value (replicate n b) (copies-plain n b h
 
 -- ---- the lines of a mark
 
-line-length : (k v : List ℕ) → length (line_text (k, v)) ≡ length (key_text k) + length (value_text v) + 2
+pub line-length : (k v : List ℕ) → length (line_text (k, v)) ≡ length (key_text k) + length (value_text v) + 2
 line-length k v = omega (arith, length-append (key_text k ++ 61 ∷ value_text v) (10 ∷ []), length-append (key_text k) (61 ∷ value_text v))
 
 -- what a mark adds to the written text
 abbrev pub mark_length : List ℕ → List ℕ → ℕ
 mark_length date reason = length (line_text (deleted_key, codes "true")) + length (line_text (date_key, date)) + length (line_text (reason_key, reason))
 
-marked-text-length : (props : Props) (date reason : List ℕ) → AreOthers props.others
+pub marked-text-length : (props : Props) (date reason : List ℕ) → AreOthers props.others
     → length (written (marked_entries date reason (plain_entries props))) ≡ length (written (plain_entries props)) + mark_length date reason
 unfolding marked_entries
 marked-text-length props date reason are =
