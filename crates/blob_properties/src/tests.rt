@@ -1,7 +1,7 @@
 //! Worked properties files, with ample memory.
 use crate::{
     BlobProps, BlobPropsErr, PropsRead, ToPairsErr, marked_text, of_pairs, pairs_say_the_same,
-    read_blob, to_pairs, unmarked_text,
+    plain_values_stay, read_blob, the_front_is_enough, there_is_room, to_pairs, unmarked_text,
 };
 use std::alloc::Global;
 use std::test::Fail;
@@ -117,6 +117,9 @@ fn texts(rt: HostRuntime) -> Result<(), Fail> {
         assert_eq!(rt; pairs.get("deletedReason"), Some("Deleted by request"));
     }
     pairs_say_the_same();
+    plain_values_stay();
+    the_front_is_enough();
+    there_is_room();
     Ok(())
 }
 
