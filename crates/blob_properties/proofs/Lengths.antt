@@ -1,5 +1,5 @@
 -- How long written texts are, and that there is room for a mark.
-use Rattle.std.proofs.Common.{slice_index, ◌≡◌, ℕ, zero, suc, ◌+◌, ◌*◌, ◌^◌, ◌<◌, ◌≤◌, Bool, true, false, true≢false, not, ◌&&◌, ◌||◌, eqb, ltb, cond, List, [], ◌∷◌, ◌++◌, length, length-append, Option, Some, None, is_some, Result, Ok, Err, decimal, codes, replicate, refl, sym, ap, ◌∙◌, subst, arith}
+use Rattle.std.proofs.Common.{slice_index, ◌≡◌, ◌≢◌, ℕ, zero, suc, ◌+◌, ◌*◌, ◌^◌, ◌<◌, ◌≤◌, Bool, true, false, true≢false, not, ◌&&◌, ◌||◌, eqb, ltb, cond, List, [], ◌∷◌, ◌++◌, length, length-append, Option, Some, None, is_some, Result, Ok, Err, decimal, codes, replicate, refl, sym, ap, ◌∙◌, subst, arith}
 use Rattle.std.specs.Prelude.{nat_le}
 use Rattle.std.specs.List.{flat_map, list_all}
 use Rattle.std.specs.Str.{chars}
@@ -25,6 +25,7 @@ use Rattle.blob_properties.specs.declared.blob_props_err.BlobPropsErr.{BlobProps
 use Rattle.blob_properties.specs.declared.blob_props_err.BlobPropsErr.TheVariants.{Missing, BadValue, NoMemory}
 use Rattle.blob_properties.specs.FromPairs.{Refusal, Gives, props_of}
 use Rattle.blob_properties.specs.ToPairs.{plain_entries, marked_entries, with_deleted, entries_of}
+use Rattle.blob_properties.specs.Plain.{is_plain, IsPlain}
 use Rattle.blob_properties.specs.Readable.{longest_text, HasRoom, has_room, if_room, from_pairs, readable_of, text_of}
 use Rattle.blob_properties.proofs.Puts.{both, written-put_new}
 use Rattle.blob_properties.proofs.Numbers.{and_true, digits_all}
@@ -32,15 +33,11 @@ use Rattle.blob_properties.proofs.Round.{passes, no-mark, said_back}
 
 -- ---- values that are written as they are
 
--- a printing byte that needs no backslash, and no space
-abbrev pub is_plain : ℕ → Bool
-is_plain b = ltb 32 b && (ltb b 127 && not (is_special b))
-
 plain-char : (b : ℕ) → is_plain b ≡ true → char_text b ≡ b ∷ []
 unfolding char_text
 plain-char b h =
-    let parts = both (ltb 32 b) (ltb b 127 && not (is_special b)) h in
-    let more = both (ltb b 127) (not (is_special b)) parts.1 in
+    let parts = both (nat_le 32 b) (nat_le b 126 && not (is_special b)) h in
+    let more = both (nat_le b 126) (not (is_special b)) parts.1 in
     let low = parts.0 in
     let high = more.0 in
     let special : is_special b ≡ false = negated (is_special b) more.1 in
@@ -55,10 +52,8 @@ plain-char b h =
       negated true k = absurd (true≢false (sym k))
       negated false k = refl
 
-plain-guarded : (b : ℕ) → is_plain b ≡ true → guarded_text b ≡ b ∷ []
-plain-guarded b h =
-    let parts = both (ltb 32 b) (ltb b 127 && not (is_special b)) h in
-    let low = parts.0 in
+plain-guarded : (b : ℕ) → is_plain b ≡ true → b ≢ 32 → guarded_text b ≡ b ∷ []
+plain-guarded b h other =
     let space : eqb b 32 ≡ false = grind (arith, nat_tests) in
     rw space (plain-char b h)
 
@@ -71,20 +66,20 @@ plain-chars (b ∷ text) h =
 plain-ascii : (text : List ℕ) → list_all is_plain text ≡ true → (at : ℕ) → slice_index text at < 128
 plain-ascii [] h at = omega arith
 plain-ascii (b ∷ text) h zero =
-    let parts = both (ltb 32 b) (ltb b 127 && not (is_special b)) (both (is_plain b) (list_all is_plain text) h).0 in
-    let high = (both (ltb b 127) (not (is_special b)) parts.1).0 in
+    let parts = both (nat_le 32 b) (nat_le b 126 && not (is_special b)) (both (is_plain b) (list_all is_plain text) h).0 in
+    let high = (both (nat_le b 126) (not (is_special b)) parts.1).0 in
     grind (arith, nat_tests)
 plain-ascii (b ∷ text) h (suc at) = plain-ascii text (both (is_plain b) (list_all is_plain text) h).1 at
 
 -- a plain text is written as it is
-pub plain-value : (text : List ℕ) → list_all is_plain text ≡ true → value_text text ≡ text
+pub plain-value : (text : List ℕ) → IsPlain text → value_text text ≡ text
 unfolding value_text
-plain-value text h = ap value_chars (chars-IsAscii text (plain-ascii text h)) ∙ by_first text h where
-  by_first : (text : List ℕ) → list_all is_plain text ≡ true → value_chars text ≡ text
-  by_first [] h = refl
-  by_first (b ∷ text) h =
+plain-value text plain = ap value_chars (chars-IsAscii text (plain-ascii text plain.bytes)) ∙ by_first text plain.bytes plain.first where
+  by_first : (text : List ℕ) → list_all is_plain text ≡ true → slice_index text 0 ≢ 32 → value_chars text ≡ text
+  by_first [] h other = refl
+  by_first (b ∷ text) h other =
       let parts = both (is_plain b) (list_all is_plain text) h in
-      rw (plain-guarded b parts.0, plain-chars text parts.1) refl
+      rw (plain-guarded b parts.0 other, plain-chars text parts.1) refl
 
 digit-plain : (b : ℕ) → is_ascii_digit b ≡ true → is_plain b ≡ true
 digit-plain b h = grind (arith, nat_tests)
@@ -95,11 +90,18 @@ digits-plain (b ∷ text) h =
     let parts = both (is_ascii_digit b) (list_all is_ascii_digit text) h in
     and_true (is_plain b) (list_all is_plain text) (digit-plain b parts.0) (digits-plain text parts.1)
 
+digits-first : (text : List ℕ) → list_all is_ascii_digit text ≡ true → slice_index text 0 ≢ 32
+digits-first [] h e = omega arith
+digits-first (b ∷ text) h e =
+    let digit = (both (is_ascii_digit b) (list_all is_ascii_digit text) h).0 in
+    grind (arith, nat_tests)
+
 -- a time is written in at most fifteen bytes
 pub date-length : (at : ℕ) → at < 2 ^ 48 → length (value_text (decimal at)) ≤ 15
 date-length at small =
     let numeral = (decimal_is_IsNumeral at (omega arith)).0 in
-    let same = plain-value (decimal at) (digits-plain (decimal at) (digits_all (decimal at) numeral.1)) in
+    let digits = digits_all (decimal at) numeral.1 in
+    let same = plain-value (decimal at) (record { bytes = digits-plain (decimal at) digits; first = digits-first (decimal at) digits }) in
     let short = length-decimal-le 15 at (omega arith) (omega arith) (omega arith) in
     subst (λ (t : List ℕ). length t ≤ 15) (sym same) short
 
@@ -107,19 +109,24 @@ copies-plain : (n b : ℕ) → is_plain b ≡ true → list_all is_plain (replic
 copies-plain zero b h = refl
 copies-plain (suc n) b h = and_true (is_plain b) (list_all is_plain (replicate n b)) h (copies-plain n b h)
 
-copies-length : (n b : ℕ) → is_plain b ≡ true → length (value_text (replicate n b)) ≡ n
-copies-length n b h = ap length (plain-value (replicate n b) (copies-plain n b h)) ∙ length-replicate n b
+copies-first : (n b : ℕ) → b ≢ 32 → slice_index (replicate n b) 0 ≢ 32
+copies-first zero b other e = omega arith
+copies-first (suc n) b other e = other e
+
+copies-length : (n b : ℕ) → is_plain b ≡ true → b ≢ 32 → length (value_text (replicate n b)) ≡ n
+copies-length n b h other =
+    ap length (plain-value (replicate n b) (record { bytes = copies-plain n b h; first = copies-first n b other })) ∙ length-replicate n b
 
 -- ---- the lines of a mark
 
-line-length : (k v : List ℕ) → length (line_text (k, v)) ≡ length (key_text k) + length (value_text v) + 2
+pub line-length : (k v : List ℕ) → length (line_text (k, v)) ≡ length (key_text k) + length (value_text v) + 2
 line-length k v = omega (arith, length-append (key_text k ++ 61 ∷ value_text v) (10 ∷ []), length-append (key_text k) (61 ∷ value_text v))
 
 -- what a mark adds to the written text
 abbrev pub mark_length : List ℕ → List ℕ → ℕ
 mark_length date reason = length (line_text (deleted_key, codes "true")) + length (line_text (date_key, date)) + length (line_text (reason_key, reason))
 
-marked-text-length : (props : Props) (date reason : List ℕ) → AreOthers props.others
+pub marked-text-length : (props : Props) (date reason : List ℕ) → AreOthers props.others
     → length (written (marked_entries date reason (plain_entries props))) ≡ length (written (plain_entries props)) + mark_length date reason
 unfolding marked_entries
 marked-text-length props date reason are =
@@ -136,8 +143,8 @@ marked-text-length props date reason are =
 longest : (date reason : List ℕ) → length (value_text date) ≤ 15 → length (value_text reason) ≤ 100
     → mark_length date reason ≤ mark_length (replicate 15 57) (replicate 100 120)
 longest date reason short brief =
-    let a = copies-length 15 57 refl in
-    let b = copies-length 100 120 refl in
+    let a = copies-length 15 57 refl (λ e. omega arith) in
+    let b = copies-length 100 120 refl (λ e. omega arith) in
     omega (arith, a, b, line-length date_key date, line-length date_key (replicate 15 57), line-length reason_key reason, line-length reason_key (replicate 100 120))
 
 -- the text with a mark is no longer than the one with the longest mark

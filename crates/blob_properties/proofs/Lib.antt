@@ -3,3 +3,4 @@ pub mod Numbers
 pub mod Meanings
 pub mod Round
 pub mod Lengths
+pub mod Own

@@ -4,3 +4,4 @@ pub mod Props
 pub mod FromPairs
 pub mod ToPairs
 pub mod Readable
+pub mod Plain

@@ -1,5 +1,5 @@
 //! The written text of a blob, with a mark and without one.
-ghost use Rattle.std.specs.Prelude.{◌≡◌, ◌↔◌, ◌^◌, ◌<◌, ◌≤◌, length, IfOk, IsErrOf};
+ghost use Rattle.std.specs.Prelude.{[], ◌≡◌, ◌↔◌, ◌^◌, ◌<◌, ◌≤◌, length, IfOk, IsErrOf};
 ghost use Rattle.java_props.specs.Reading.{Reads};
 ghost use Rattle.java_props.specs.Writing.{value_text, written};
 ghost use Rattle.blob_properties.specs.declared.to_pairs_err.ToPairsErr.TheVariants as refused;
@@ -74,11 +74,12 @@ pub fn marked_text(
 
 /// The text of a blob that isn't marked.
 ///
-/// Of a readable blob there is always such a text, and it is readable again.
+/// Of a readable blob there is always such a text, and it is readable again; so it is of a blob without other pairs.
 pub fn unmarked_text(alloc: Global, props: &BlobProps) -> Result<Vec<u8>, ToPairsErr>
     ensures text { IfOk result (λ text. text.items ≡ unmarked_text_of props.now) }
     ensures full { IsErrOf result refused.Full ↔ (250 < length props.now.others) }
     ensures readable { HasRoom props.now → IfOk result (λ text. Readable text.items (without_mark props.now)) }
+    ensures own { props.now.others ≡ [] → IfOk result (λ text. Readable text.items (without_mark props.now)) }
 {
     if props.others.len() > MOST_UNMARKED {
         return Err(ToPairsErr::Full);
