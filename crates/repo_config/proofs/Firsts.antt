@@ -32,11 +32,11 @@ pub told_at : {A : Type 0} (test : A → Option ConfigErr) (xs : List A) (i : �
 told_at test xs i x why e so_far (inl none) = inl none
 told_at test xs i x why e so_far (inr some) = inr (so_far ∙ fails_at test xs i x why e some)
 
-none_left : (a b : Option ConfigErr) → option_or a b ≡ None → a ≡ None
+pub none_left : (a b : Option ConfigErr) → option_or a b ≡ None → a ≡ None
 none_left None b e = refl
 none_left (Some x) b e = e
 
-none_right : (a b : Option ConfigErr) → option_or a b ≡ None → b ≡ None
+pub none_right : (a b : Option ConfigErr) → option_or a b ≡ None → b ≡ None
 none_right None b e = e
 none_right (Some x) b e = cc
 

@@ -5,3 +5,5 @@ pub mod Firsts
 pub mod Passed
 pub mod StoreKeys
 pub mod Today
+pub mod Declared
+pub mod Sound
