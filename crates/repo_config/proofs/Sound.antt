@@ -1,6 +1,5 @@
 -- What every configuration keeps.
-use Rattle.std.proofs.Common.{◌≡◌, ◌∙◌, ◌<◌, ◌≤◌, ◌&&◌, ap, sym, refl, subst, ℕ, List, [], ◌∷◌, Bool, true, false, cond, fold, length, Option, Some, None, Result, Ok, Err, unwrap_or, arith, leb, codes, IsSomeAnd}
-use Rattle.std.specs.declared.cmp.Ordering.{Ordering}
+use Rattle.std.proofs.Common.{◌≡◌, ◌≤◌, ◌&&◌, refl, subst, ℕ, List, [], ◌∷◌, Bool, true, false, cond, fold, Option, Some, None, Result, Ok, Err, unwrap_or, arith, codes}
 use Rattle.std.specs.declared.cmp.Ordering.TheVariants.{Less, Equal, Greater}
 use Rattle.std.specs.List.{AllByRecursion}
 use Rattle.std.specs.Map.{lookup}
@@ -17,14 +16,13 @@ use Rattle.nx_base.specs.Texts.{name_cmp, same_name}
 use Rattle.repo_config.specs.declared.config_err.ConfigErr.{ConfigErr}
 use Rattle.repo_config.specs.declared.form.Subject.TheVariants.{OfStore, OfRepo}
 use Rattle.repo_config.specs.Values.{is_decimal, is_between, number_said}
-use Rattle.repo_config.specs.Lists.{has_name}
-use Rattle.repo_config.specs.Settings.{Settings, Repository, settings, repository, declared, by_name, journal_of, text_at, repo_at}
+use Rattle.repo_config.specs.Settings.{Settings, settings, repository, declared, by_name, text_at}
 use Rattle.repo_config.specs.Refusals.{refusal, test_keys, test_missing, test_stores}
-use Rattle.repo_config.specs.Reading.{Configures, config_from, config_of, unless}
+use Rattle.repo_config.specs.Reading.{Configures, config_from, unless}
 use Rattle.repo_config.specs.Laws.{HasStore, IsSound}
 use Rattle.repo_config.proofs.Firsts.{none_left, none_right}
 use Rattle.repo_config.proofs.Passed.{names_few, stores_good}
-use Rattle.repo_config.proofs.Declared.{Names, all_named}
+use Rattle.repo_config.proofs.Declared.{all_named}
 
 -- each value of the entries keeps P
 abbrev Values : {A : Type 0} → (A → Type 0) → List (List ℕ × A) → Type 0
@@ -76,7 +74,7 @@ sound digest pairs none =
     let stores = none_right (test_missing pairs) (test_stores pairs) (none_right (test_keys pairs) _ none) in
     record {
       stores = λ name repo e. looked_up (HasStore (settings digest pairs)) (same_name name) (by_name (repository pairs) (declared OfRepo pairs)) repo
-        (all_inserted (HasStore (settings digest pairs)) (repository pairs) (declared OfRepo pairs) [] tt (all_named pairs stores)) e;
+          (all_inserted (HasStore (settings digest pairs)) (repository pairs) (declared OfRepo pairs) [] tt (all_named pairs stores)) e;
       journal = by_text (value_of (codes "journal") pairs);
       few = names_few OfStore (text_at pairs (codes "stores")) (stores_good pairs keys);
     }

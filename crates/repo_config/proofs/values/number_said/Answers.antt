@@ -1,4 +1,4 @@
-use Rattle.std.proofs.Common.{◌∙◌, sym, ap, cond, Some, None, Option, ℕ, Bool, arith}
+use Rattle.std.proofs.Common.{◌∙◌, sym, ap, cond, Some, None, Bool, arith}
 use Rattle.repo_config.proofs.Numbers.{number_said-decimal, number_said-none}
 use Rattle.repo_config.proofs.values.number_said.Goals as goal
 
