@@ -7,3 +7,4 @@ pub mod StoreKeys
 pub mod Today
 pub mod Declared
 pub mod Sound
+pub mod Parted

@@ -1,6 +1,6 @@
-//! Laws of the definitions: the first two functions do nothing, and their contracts are the laws.
+//! Laws of the definitions: the first three functions do nothing, and their contracts are the laws.
 ghost use Rattle.std.specs.Prelude.{◌≡◌};
-ghost use Rattle.repo_config.specs.Laws.{SomeMeaning, NeverBoth, OneConfiguration, OneRefusal, AllSound};
+ghost use Rattle.repo_config.specs.Laws.{SomeMeaning, NeverBoth, OneConfiguration, OneRefusal, AllSound, StoreKeysParted, RepoKeysParted};
 
 use crate::config::Config;
 
@@ -10,6 +10,12 @@ pub fn exactly_one_meaning()
     ensures never_both { NeverBoth }
     ensures one_configuration { OneConfiguration }
     ensures one_refusal { OneRefusal }
+{}
+
+/// The key of a store's or a repository's name is taken apart into that name again, dots or not.
+pub fn keys_are_parted()
+    ensures stores { StoreKeysParted }
+    ensures repos { RepoKeysParted }
 {}
 
 /// In every configuration each repository has a store that is a declared file store, the journal
