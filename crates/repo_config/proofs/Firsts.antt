@@ -1,5 +1,5 @@
 -- The first refusal of a list, as a loop comes to it.
-use Rattle.std.proofs.Common.{◌≡◌, ◌∙◌, ap, sym, refl, subst, ℕ, zero, suc, ◌+◌, ◌≤◌, List, [], ◌∷◌, drop, length, Option, Some, None, arith, Result, Ok, Err, ◌⊎◌, inl, inr}
+use Rattle.std.proofs.Common.{◌≡◌, ◌∙◌, ap, sym, refl, ℕ, zero, suc, ◌+◌, List, [], ◌∷◌, drop, Option, Some, None, arith, ◌⊎◌, inl, inr}
 use Rattle.std.specs.Prelude.{slice_get}
 use Rattle.std.specs.Option.{option_or}
 use Rattle.repo_config.specs.declared.config_err.ConfigErr.{ConfigErr}
@@ -32,11 +32,11 @@ pub told_at : {A : Type 0} (test : A → Option ConfigErr) (xs : List A) (i : �
 told_at test xs i x why e so_far (inl none) = inl none
 told_at test xs i x why e so_far (inr some) = inr (so_far ∙ fails_at test xs i x why e some)
 
-none_left : (a b : Option ConfigErr) → option_or a b ≡ None → a ≡ None
+pub none_left : (a b : Option ConfigErr) → option_or a b ≡ None → a ≡ None
 none_left None b e = refl
 none_left (Some x) b e = e
 
-none_right : (a b : Option ConfigErr) → option_or a b ≡ None → b ≡ None
+pub none_right : (a b : Option ConfigErr) → option_or a b ≡ None → b ≡ None
 none_right None b e = e
 none_right (Some x) b e = cc
 

@@ -5,3 +5,6 @@ pub mod Firsts
 pub mod Passed
 pub mod StoreKeys
 pub mod Today
+pub mod Declared
+pub mod Sound
+pub mod Parted

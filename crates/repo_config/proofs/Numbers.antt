@@ -1,5 +1,5 @@
 -- A value that is the decimal text of a number, and one that is none.
-use Rattle.std.proofs.Common.{◌≡◌, ◌≢◌, ◌∙◌, ◌<◌, ◌≤◌, ◌^◌, ◌&&◌, ap, sym, refl, ℕ, List, Bool, true, false, cond, Option, Some, None, decimal, arith, subst, rules}
+use Rattle.std.proofs.Common.{◌≡◌, ◌≢◌, ◌∙◌, ◌<◌, ◌^◌, ◌&&◌, ap, sym, refl, ℕ, List, Bool, true, false, cond, Option, Some, None, decimal, arith}
 use Rattle.std.proofs.lemmas.Fmt.{decimal_is_IsNumeral}
 use Rattle.std.proofs.lemmas.Bool.Decides.{nat_tests}
 use Rattle.std.specs.Str.Parse.{digits_value}

@@ -1,5 +1,5 @@
 -- What is known of pairs whose keys are all accepted: the lists are good.
-use Rattle.std.proofs.Common.{◌≡◌, ◌∙◌, ap, sym, refl, subst, ℕ, suc, ◌+◌, ◌<◌, ◌≤◌, map, drop, get_or, List, [], ◌∷◌, Bool, true, false, not, cond, ◌&&◌, ◌||◌, length, filter, Option, Some, None, arith, leb, codes, unwrap_or}
+use Rattle.std.proofs.Common.{◌≡◌, ◌∙◌, ap, sym, refl, ℕ, suc, ◌<◌, ◌≤◌, map, drop, get_or, List, [], ◌∷◌, Bool, true, false, not, cond, ◌&&◌, ◌||◌, length, filter, Option, Some, None, arith, leb, codes, unwrap_or}
 use Rattle.std.specs.List.{list_all}
 use Rattle.std.specs.declared.cmp.Ordering.{Ordering}
 use Rattle.std.specs.declared.cmp.Ordering.TheVariants.{Less, Equal, Greater}
@@ -50,13 +50,13 @@ pub stores_good : (pairs : Entries) → test_keys pairs ≡ None → is_list OfS
 stores_good pairs none =
     list_at OfStore pairs (codes "stores") refl
     (λ value e. good_by (has_double (names_in value)) (is_list OfStore value) (DuplicateName (codes "stores")) (BadValue (codes "stores"))
-      (passed (key_refusal pairs) pairs (codes "stores") value none e))
+    (passed (key_refusal pairs) pairs (codes "stores") value none e))
 
 pub repos_good : (pairs : Entries) → test_keys pairs ≡ None → is_list OfRepo (text_at pairs (codes "repositories")) ≡ true
 repos_good pairs none =
     list_at OfRepo pairs (codes "repositories") refl
     (λ value e. good_by (has_double (names_in value)) (is_list OfRepo value) (DuplicateName (codes "repositories")) (BadValue (codes "repositories"))
-      (passed (key_refusal pairs) pairs (codes "repositories") value none e))
+    (passed (key_refusal pairs) pairs (codes "repositories") value none e))
 
 length-filter-le : {A : Type 0} (p : A → Bool) (xs : List A) → length (filter p xs) ≤ length xs
 length-filter-le p [] = omega arith

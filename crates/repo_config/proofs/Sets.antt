@@ -38,8 +38,9 @@ pub more_names : {Y : Type 0} (old new : BTreeSet (String Y)) (key : String Y) (
 more_names {Y} old new key name list was is_new same full added updates finds twice =
     subst (λ (n : List ℕ). is_empty n ≡ false → Finds {Y = Y} new (with_name n list) × (cond is_new was true ≡ has_double (with_name n list))) same
     (λ some.
-      let P : Bool → Type 0 = λ b. Finds {Y = Y} new (cond b list (string_bytes key ∷ list)) × (cond is_new was true ≡ has_double (cond b list (string_bytes key ∷ list))) in
-      subst P (sym some)
-      (more_found old new key list updates finds,
-       twice_more was is_new (has_name list (string_bytes key)) (has_double list) (added ∙ ap not (finds (string_bytes key))) twice))
+    let P : Bool → Type 0 = λ b. Finds {Y = Y} new (cond b list (string_bytes key ∷ list)) × (cond is_new was true ≡ has_double (cond b list (string_bytes key ∷ list))) in
+    subst P (sym some) (
+      more_found old new key list updates finds,
+      twice_more was is_new (has_name list (string_bytes key)) (has_double list) (added ∙ ap not (finds (string_bytes key))) twice,
+    ))
     full

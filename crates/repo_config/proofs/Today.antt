@@ -1,5 +1,5 @@
 -- No text is refused for groups.
-use Rattle.std.proofs.Common.{◌≡◌, ◌⊎◌, sym, subst, ap, ℕ, List, [], ◌∷◌, Bool, true, false, not, cond, Option, Some, None, Result, Ok, Err, IfSome, IfErr, find, inl, inr}
+use Rattle.std.proofs.Common.{◌≡◌, ◌⊎◌, sym, subst, ℕ, List, [], ◌∷◌, Bool, true, false, cond, Option, Some, None, Result, Ok, Err, IfSome, IfErr, find, inl, inr}
 use Rattle.std.specs.Option.{option_or, option_map}
 use Rattle.java_props.specs.declared.PropsErr.{PropsErr}
 use Rattle.java_props.specs.Kept.{Entries}
@@ -10,12 +10,12 @@ use Rattle.repo_config.specs.declared.config_err.ConfigErr.TheVariants.{UnknownK
 use Rattle.repo_config.specs.declared.form.Form.{Form}
 use Rattle.repo_config.specs.declared.form.Subject.{Subject}
 use Rattle.repo_config.specs.declared.form.Subject.TheVariants.{OfStore, OfRepo}
-use Rattle.repo_config.specs.Keys.{subject_of, middle_of, tail_of, key_text}
+use Rattle.repo_config.specs.Keys.{subject_of, tail_of, key_text}
 use Rattle.repo_config.specs.Lists.{has_name}
 use Rattle.repo_config.specs.Table.{rows}
-use Rattle.repo_config.specs.Settings.{Settings, settings, declared, is_declared}
-use Rattle.repo_config.specs.Refusals.{first_refusal, row_with, has_row, found_refusal, subject_refusal, key_refusal, missing_refusal, lacks, store_refusal, store_keys, test_keys, test_missing, test_stores, refusal}
-use Rattle.repo_config.specs.Reading.{unless, config_from, config_of, IsRefused}
+use Rattle.repo_config.specs.Settings.{Settings, settings, declared}
+use Rattle.repo_config.specs.Refusals.{first_refusal, row_with, found_refusal, subject_refusal, key_refusal, missing_refusal, lacks, store_refusal, store_keys, test_keys, test_missing, test_stores, refusal}
+use Rattle.repo_config.specs.Reading.{unless, config_from, IsRefused}
 use Rattle.repo_config.specs.Told.{IsToday}
 
 abbrev Today : Option ConfigErr → Type 0
@@ -56,10 +56,10 @@ by_steps pairs =
     either (test_keys pairs) (option_or (test_missing pairs) (test_stores pairs))
     (first (key_refusal pairs) (λ pair. by_subject pairs pair.0 pair.1 (subject_of pair.0)) pairs)
     (either (test_missing pairs) (test_stores pairs)
-      (either (first_refusal (missing_refusal OfStore pairs) (declared OfStore pairs)) (first_refusal (missing_refusal OfRepo pairs) (declared OfRepo pairs))
-        (first (missing_refusal OfStore pairs) (λ name. by_missing (λ row. key_text OfStore name row.word) (find (lacks OfStore pairs name) (rows OfStore))) (declared OfStore pairs))
-        (first (missing_refusal OfRepo pairs) (λ name. by_missing (λ row. key_text OfRepo name row.word) (find (lacks OfRepo pairs name) (rows OfRepo))) (declared OfRepo pairs)))
-      (first (store_refusal pairs) (λ pair. by_store (has_name (declared OfStore pairs) pair.1) pair.0) (store_keys pairs)))
+    (either (first_refusal (missing_refusal OfStore pairs) (declared OfStore pairs)) (first_refusal (missing_refusal OfRepo pairs) (declared OfRepo pairs))
+    (first (missing_refusal OfStore pairs) (λ name. by_missing (λ row. key_text OfStore name row.word) (find (lacks OfStore pairs name) (rows OfStore))) (declared OfStore pairs))
+    (first (missing_refusal OfRepo pairs) (λ name. by_missing (λ row. key_text OfRepo name row.word) (find (lacks OfRepo pairs name) (rows OfRepo))) (declared OfRepo pairs)))
+    (first (store_refusal pairs) (λ pair. by_store (has_name (declared OfStore pairs) pair.1) pair.0) (store_keys pairs)))
 
 by_unless : (o : Option ConfigErr) (given : Settings) → Today o → IfErr (unless o given) IsToday
 by_unless None given p = tt

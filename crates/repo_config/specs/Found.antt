@@ -1,5 +1,5 @@
 -- What the parts of the reader keep between calls.
-use Rattle.std.specs.Prelude.{◌≡◌, ℕ, Bool, List, ◌∷◌, if◌then◌else◌}
+use Rattle.std.specs.Prelude.{◌≡◌, ℕ, List, ◌∷◌, if◌then◌else◌}
 use Rattle.std.specs.BTreeSet.{contains_text}
 use Rattle.java_props.specs.Kept.{Entries}
 use Rattle.repo_config.specs.declared.names.Names.{Names}

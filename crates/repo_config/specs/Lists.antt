@@ -1,5 +1,5 @@
 -- Lists of names: texts that commas part.
-use Rattle.std.specs.Prelude.{ℕ, Bool, true, false, not, ◌&&◌, ◌||◌, ◌==◌, nat_le, List, [], ◌∷◌, length, filter}
+use Rattle.std.specs.Prelude.{ℕ, Bool, false, not, ◌&&◌, ◌||◌, ◌==◌, nat_le, List, [], ◌∷◌, length, filter}
 use Rattle.std.specs.List.{slice_split, list_any, list_all}
 use Rattle.nx_base.specs.Texts.{same_name}
 use Rattle.nx_base.specs.Names.{is_name, is_store_name}

@@ -3,8 +3,8 @@
 --     test_missing     a required key that isn't there is BadValue: of the stores first, then of the repositories, each in
 --                      the order of its list
 --     test_stores      the store of each repository, by key in byte order: NoStore
-use Rattle.std.specs.Prelude.{ℕ, Bool, true, false, not, ◌&&◌, List, [], ◌∷◌, map, find, fold, Option, Some, None, is_none, if◌then◌else◌, codes}
-use Rattle.std.specs.Option.{option_or, option_map, option_and_then}
+use Rattle.std.specs.Prelude.{ℕ, Bool, true, false, not, ◌&&◌, List, [], ◌∷◌, find, fold, Option, Some, None, is_none, if◌then◌else◌}
+use Rattle.std.specs.Option.{option_or, option_map}
 use Rattle.nx_base.specs.Texts.{same_name}
 use Rattle.java_props.specs.Kept.{Entries, value_of, put}
 use Rattle.repo_config.specs.declared.config_err.ConfigErr.{ConfigErr}

@@ -6,7 +6,6 @@ use Rattle.std.specs.Map.{lookup}
 use Rattle.std.specs.BTreeMap.{insert_entry}
 use Rattle.nx_base.specs.declared.layout.Layout.{Layout}
 use Rattle.nx_base.specs.declared.layout.Layout.TheVariants.{Volume}
-use Rattle.nx_base.specs.declared.member.Member.{Member}
 use Rattle.nx_base.specs.declared.fill.Fill.TheVariants.{First}
 use Rattle.nx_base.specs.declared.policy.Policy.{Policy}
 use Rattle.nx_base.specs.declared.policy.Policy.TheVariants.{Redeploy}
@@ -15,7 +14,6 @@ use Rattle.nx_base.specs.declared.repo_kind.RepoKind.TheVariants.{Hosted}
 use Rattle.nx_base.specs.Fills.{Group}
 use Rattle.nx_base.specs.Texts.{name_cmp, same_name}
 use Rattle.java_props.specs.Kept.{Entries, value_of}
-use Rattle.repo_config.specs.declared.form.Form.{Form}
 use Rattle.repo_config.specs.declared.form.Subject.{Subject}
 use Rattle.repo_config.specs.declared.form.Subject.TheVariants.{OfAll, OfStore, OfRepo}
 use Rattle.repo_config.specs.declared.form.Word.TheVariants as word
@@ -30,7 +28,7 @@ use Rattle.repo_config.specs.declared.form.PartKind.TheVariants.{FileStore, Host
 use Rattle.repo_config.specs.Keys.{key_text}
 use Rattle.repo_config.specs.Lists.{names_in, has_name}
 use Rattle.repo_config.specs.Values.{kind_said, layout_said, number_said}
-use Rattle.repo_config.specs.Table.{kind_row, journal_row, store_layout_row, repo_store_row}
+use Rattle.repo_config.specs.Table.{kind_row, journal_row}
 
 -- the text at a key, which is empty where the key isn't there
 abbrev pub text_at : Entries → List ℕ → List ℕ

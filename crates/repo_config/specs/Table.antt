@@ -1,6 +1,6 @@
 -- The table of keys. A row says with which word a key ends, which kinds of stores or repositories have it, the rule of its
 -- value, and what counts where the key isn't there.
-use Rattle.std.specs.Prelude.{ℕ, Bool, List, [], ◌∷◌, Option, is_some, true, false}
+use Rattle.std.specs.Prelude.{ℕ, Bool, List, [], ◌∷◌, is_some, true, false}
 use Rattle.nx_base.specs.declared.layout.Layout.TheVariants as layout
 use Rattle.repo_config.specs.declared.form.Form.{Form}
 use Rattle.repo_config.specs.declared.form.Subject.{Subject}
@@ -13,7 +13,6 @@ use Rattle.repo_config.specs.declared.form.Rule.{Rule}
 use Rattle.repo_config.specs.declared.form.Rule.TheVariants.{Names, KindName, LayoutName, StoreOf, Number}
 use Rattle.repo_config.specs.declared.form.Absent.{Absent}
 use Rattle.repo_config.specs.declared.form.Absent.TheVariants.{Empty, IsKind, IsLayout, IsNumber, Required}
-use Rattle.repo_config.specs.declared.form.PartKind.{PartKind}
 use Rattle.repo_config.specs.declared.form.PartKind.TheVariants.{FileStore, HostedRepo}
 use Rattle.repo_config.specs.Lists.{is_list, names_in, has_double}
 use Rattle.repo_config.specs.Values.{kind_said, layout_said, number_said}

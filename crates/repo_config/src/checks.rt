@@ -131,12 +131,7 @@ fn missing_row(
 }
 
 /// The required keys of one store or repository.
-fn test_part(
-    alloc: Global,
-    subject: Subject,
-    pairs: &Pairs,
-    name: &str,
-) -> Result<(), ConfigErr>
+fn test_part(alloc: Global, subject: Subject, pairs: &Pairs, name: &str) -> Result<(), ConfigErr>
     ensures { Answers (step.missing_refusal subject pairs.now name.now) result }
 {
     match missing_row(alloc, subject, pairs, name)? {

@@ -77,7 +77,6 @@ pub struct Form {
     pub absent: Absent,
 }
 
-
 impl Word {
     pub(crate) fn text(self) -> &'static str
         ensures { result.now ≡ text self }

@@ -1,6 +1,6 @@
-//! Laws of the definitions: the first function does nothing, and its contract is the law.
+//! Laws of the definitions: the first three functions do nothing, and their contracts are the laws.
 ghost use Rattle.std.specs.Prelude.{◌≡◌};
-ghost use Rattle.repo_config.specs.Laws.{SomeMeaning, NeverBoth, OneConfiguration, OneRefusal};
+ghost use Rattle.repo_config.specs.Laws.{SomeMeaning, NeverBoth, OneConfiguration, OneRefusal, AllSound, StoreKeysParted, RepoKeysParted};
 
 use crate::config::Config;
 
@@ -10,6 +10,18 @@ pub fn exactly_one_meaning()
     ensures never_both { NeverBoth }
     ensures one_configuration { OneConfiguration }
     ensures one_refusal { OneRefusal }
+{}
+
+/// The key of a store's or a repository's name is taken apart into that name again, dots or not.
+pub fn keys_are_parted()
+    ensures stores { StoreKeysParted }
+    ensures repos { RepoKeysParted }
+{}
+
+/// In every configuration each repository has a store that is a declared file store, the journal
+/// takes 1 to 1,000,000 entries, and there are at most 64 file stores.
+pub fn settings_are_sound()
+    ensures { AllSound }
 {}
 
 fn needs_send<T: Send>(value: T) -> T

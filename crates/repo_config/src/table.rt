@@ -65,7 +65,9 @@ const REPO_STORE: Form = Form {
 };
 
 static ROWS_OF_ALL: [Form; 3] = [STORES, REPOSITORIES, JOURNAL];
+
 static ROWS_OF_STORE: [Form; 2] = [STORE_KIND, STORE_LAYOUT];
+
 static ROWS_OF_REPO: [Form; 2] = [REPO_KIND, REPO_STORE];
 
 pub(crate) fn rows(subject: Subject) -> &'static [Form]

@@ -304,7 +304,9 @@ fn largest(alloc: Global) -> Result<String, AllocError> {
     let mut text = list(alloc, "stores", 64, "\n")?;
     text.push_str(list(alloc, "repositories", 64, "\n")?.as_str())?;
     for i in 0..64u32 {
-        let line = format!(in alloc; "repo.n{i}.store=n{i}\nrepo.n{i}.kind=hosted\nstore.n{i}.kind=file\n")?;
+        let line = format!(in alloc;
+            "repo.n{i}.store=n{i}\nrepo.n{i}.kind=hosted\nstore.n{i}.kind=file\n"
+        )?;
         text.push_str(line.as_str())?;
     }
     Ok(text)
@@ -316,8 +318,14 @@ fn has_limits(rt: HostRuntime) -> Result<(), Fail> {
     let rows = [
         (list(alloc, "stores", 65, "")?, "BadValue stores"),
         (list(alloc, "stores", 65, ",n7")?, "DuplicateName stores"),
-        (list(alloc, "repositories", 65, "")?, "BadValue repositories"),
-        (list(alloc, "repositories", 64, "")?, "NoStore repo.n0.store"),
+        (
+            list(alloc, "repositories", 65, "")?,
+            "BadValue repositories",
+        ),
+        (
+            list(alloc, "repositories", 64, "")?,
+            "NoStore repo.n0.store",
+        ),
     ];
     for (text, want) in &rows {
         assert_eq!(rt; told(alloc, text.as_bytes())?.as_str(), *want);
@@ -333,7 +341,10 @@ fn has_limits(rt: HostRuntime) -> Result<(), Fail> {
     }
     assert_eq!(rt; told(alloc, text.as_bytes())?.as_str(), "Ok a 100000");
     text.push('x')?;
-    assert_eq!(rt; told(alloc, text.as_bytes())?.as_str(), "Props TooLong 65537");
+    assert_eq!(rt;
+        told(alloc, text.as_bytes())?.as_str(),
+        "Props TooLong 65537"
+    );
     Ok(())
 }
 

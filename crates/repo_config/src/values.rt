@@ -65,7 +65,13 @@ pub(crate) fn number_said(least: u64, most: u64, value: &str) -> Option<u64>
     ensures { result ≡ number_said least most value.now }
 {
     match read_number(value) {
-        Some(n) if is_between(least, most, n) => Some(n),
-        _ => None,
+        Some(n) => {
+            if is_between(least, most, n) {
+                Some(n)
+            } else {
+                None
+            }
+        }
+        None => None,
     }
 }

@@ -1,4 +1,4 @@
-use Rattle.std.proofs.Common.{◌≡◌, ◌∙◌, ap, map, true, List, ℕ, Bor, codes}
+use Rattle.std.proofs.Common.{◌∙◌, ap, map, List, ℕ, Bor, codes}
 use Rattle.std.specs.List.{list_all}
 use Rattle.repo_config.specs.declared.form.Subject.TheVariants.{OfStore, OfRepo}
 use Rattle.repo_config.specs.Lists.{may_name}

@@ -1,4 +1,4 @@
-use Rattle.std.proofs.Common.{ap, ◌∙◌, arith, length, map, ◌≡◌, ◌≤◌}
+use Rattle.std.proofs.Common.{ap, arith, length}
 use Rattle.std.proofs.lemmas.List.{length-map}
 use Rattle.repo_config.proofs.Passed.{few_repos}
 use Rattle.repo_config.proofs.checks.test.Goals as goal

@@ -1,4 +1,4 @@
-use Rattle.std.proofs.Common.{◌≡◌, ◌⊎◌, ◌∙◌, ap, sym, ℕ, List, Bool, false, cond, Option, Some, None, inl, inr}
+use Rattle.std.proofs.Common.{◌≡◌, ◌⊎◌, ◌∙◌, ap, sym, ℕ, List, Bool, false, cond, Some, None, inl, inr}
 use Rattle.repo_config.specs.declared.config_err.ConfigErr.{ConfigErr}
 use Rattle.repo_config.specs.declared.config_err.ConfigErr.TheVariants.{NoMemory, NoStore}
 use Rattle.repo_config.specs.Refusals.{store_refusal}
@@ -25,4 +25,4 @@ loop-at-preserved c =
     let declared = sym (c.has_store.ensures pairs c.in_ok-names.ensures) ∙ c.if-not-has_store.false in
     c.loop-at.invariant
     ∙ passes_at (store_refusal pairs) c.args.keys.now c.loop-at.at (c.in-Some.key.now, c.in-Some.store.now) c.in-Some.ensures.value
-      (ap (λ (b : Bool). cond b None (Some (NoStore c.in-Some.key.now))) declared)
+    (ap (λ (b : Bool). cond b None (Some (NoStore c.in-Some.key.now))) declared)

@@ -1,4 +1,4 @@
-use Rattle.std.proofs.Common.{ℕ, List, ◌-◌, ◌+◌, ◌≡◌, ◌<◌, ◌∙◌, subst, arith, get_or, sym, ap}
+use Rattle.std.proofs.Common.{ℕ, List, ◌-◌, ◌+◌, ◌≡◌, ◌∙◌, subst, arith, get_or, sym, ap}
 use Rattle.std.specs.Str.{IsCharBoundary}
 use Rattle.std.proofs.lemmas.Str.{IsCharBoundary-after_ascii}
 use Rattle.repo_config.proofs.key.tail.Goals as goal

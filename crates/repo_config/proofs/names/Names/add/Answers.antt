@@ -1,4 +1,4 @@
-use Rattle.std.proofs.Common.{◌≡◌, sym, ap, ◌∙◌, true, cond, Bool}
+use Rattle.std.proofs.Common.{sym, ap, ◌∙◌, true, cond, Bool}
 use Rattle.repo_config.proofs.Sets.{more_names}
 use Rattle.repo_config.proofs.names.Names.add.Goals as goal
 
