@@ -1,0 +1,4 @@
+pub mod Segments
+pub mod Named
+pub mod Parts
+pub mod Apart

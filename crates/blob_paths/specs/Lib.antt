@@ -1,0 +1,4 @@
+pub mod Hash
+pub mod Places
+pub mod Ids
+pub mod Parts

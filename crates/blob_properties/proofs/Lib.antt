@@ -1,0 +1,6 @@
+pub mod Puts
+pub mod Numbers
+pub mod Meanings
+pub mod Round
+pub mod Lengths
+pub mod Own
