@@ -1,0 +1,7 @@
+pub mod Names
+pub mod Naming
+pub mod Blobs
+pub mod Changes
+pub mod Images
+pub mod Newest
+pub mod VerdictLemmas
