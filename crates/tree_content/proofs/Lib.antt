@@ -1,4 +1,5 @@
 pub mod Names
+pub mod Moments
 pub mod Naming
 pub mod Blobs
 pub mod Changes
