@@ -6,3 +6,4 @@ pub mod Pages
 pub mod NamesBlob
 pub mod Shelf
 pub mod Checked
+pub mod Plan

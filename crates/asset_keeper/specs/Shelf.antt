@@ -3,6 +3,7 @@ use Rattle.std.specs.Prelude.{ℕ, List}
 use Rattle.std.specs.FinMap.{from_entries}
 use Rattle.asset_keeper.specs.declared.map_keeper.MapKeeper.{MapKeeper}
 use Rattle.asset_keeper.specs.Table.{Table}
+use Rattle.asset_keeper.specs.Plan.{Plan}
 
 abbrev pub table_in : MapKeeper → Table
 table_in keeper = record { rows = from_entries keeper.rows.entries; generation = keeper.generation }
@@ -16,3 +17,6 @@ calls_of keeper = keeper.calls
 
 abbrev pub faults_of : MapKeeper → ℕ
 faults_of keeper = keeper.faults
+
+abbrev pub plan_in : MapKeeper → Plan
+plan_in keeper = record { failing = failing_of keeper; calls = calls_of keeper }

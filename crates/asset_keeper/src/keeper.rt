@@ -7,6 +7,7 @@ ghost use Rattle.asset_keeper.specs.Told.{Tells, LeavesChange};
 ghost use Rattle.asset_keeper.specs.Ranges.{found_in_range, change_in_range, rows_in_range, generation_in_range};
 ghost use Rattle.asset_keeper.specs.Pages.{IsPageAfter};
 ghost use Rattle.asset_keeper.specs.Causes.{IsFault};
+ghost use Rattle.asset_keeper.specs.Plan.{Plan, ByPlan, PlannedLeaves};
 
 use crate::change::Change;
 use crate::generation::Generation;
@@ -25,12 +26,16 @@ pub trait Keeper {
     /// nonetheless, so that nobody says that a row is missing where none was looked for.
     ghost found: { Self → Bool };
 
+    /// Which calls are to fail, where that is known: for a keeper whose failures are planned.
+    ghost plan: { Self → Option Plan };
+
     /// The asset of the key, if it has one.
     fn get(&mut self, key: &Key) -> Result<Option<Asset>, KeepErr>
         ensures told { Tells (table self.old) (table self.new) (λ s t. (t ≡ s) × IfOk result (λ asset. asset ≡ map.get s.rows key.now)) }
         ensures answer { MatchResult result (λ asset. found self.new ≡ is_some asset) (λ _. found self.new ≡ found self.old) }
         ensures range { IfOk result (λ asset. IsTrue (found_in_range asset)) }
-        ensures cause { HasCauseWhere IsFault (faults self.old) (faults self.new) result };
+        ensures cause { HasCauseWhere IsFault (faults self.old) (faults self.new) result }
+        ensures plan { ByPlan (plan self.old) (plan self.new) result };
 
     /// Makes the change, in one commit. After `Failed` the table is the old or the new one, after
     /// `NoMemory` it is the old one.
@@ -38,7 +43,9 @@ pub trait Keeper {
         requires { IsTrue (change_in_range change.now) }
         ensures told { Tells (table self.old) (table self.new) (λ s t. LeavesChange s t change.now result) }
         ensures answer { found self.new ≡ found self.old }
-        ensures cause { HasCauseWhere IsFault (faults self.old) (faults self.new) result };
+        ensures effect { PlannedLeaves (plan self.old) result (table self.new ≡ table self.old) }
+        ensures cause { HasCauseWhere IsFault (faults self.old) (faults self.new) result }
+        ensures plan { ByPlan (plan self.old) (plan self.new) result };
 
     /// The next `n` rows after the key, or from the first on: fewer exactly at the table's end.
     fn page(&mut self, after: Option<&Key>, n: usize) -> Result<Vec<Row>, KeepErr>
@@ -47,11 +54,13 @@ pub trait Keeper {
         ensures answer { found self.new ≡ found self.old }
         ensures shape { IfOk result (λ rows. IsPageAfter (option_copied after.entry) n rows.items) }
         ensures range { IfOk result (λ rows. IsTrue (rows_in_range rows.items)) }
-        ensures cause { HasCauseWhere IsFault (faults self.old) (faults self.new) result };
+        ensures cause { HasCauseWhere IsFault (faults self.old) (faults self.new) result }
+        ensures plan { ByPlan (plan self.old) (plan self.new) result };
 
     fn generation(&mut self) -> Result<Generation, KeepErr>
         ensures told { Tells (table self.old) (table self.new) (λ s t. (t ≡ s) × IfOk result (λ g. g ≡ s.generation)) }
         ensures answer { found self.new ≡ found self.old }
         ensures range { IfOk result (λ g. IsTrue (generation_in_range g)) }
-        ensures cause { HasCauseWhere IsFault (faults self.old) (faults self.new) result };
+        ensures cause { HasCauseWhere IsFault (faults self.old) (faults self.new) result }
+        ensures plan { ByPlan (plan self.old) (plan self.new) result };
 }

@@ -10,7 +10,8 @@
 //!
 //! Each keeper has a count of faults. It never falls, and a call answers [`KeepErr::Failed`] only
 //! where it rose in that call. After `Failed` the table is the old or the new one; after
-//! [`KeepErr::NoMemory`] it is the old one.
+//! [`KeepErr::NoMemory`] it is the old one. [`MapKeeper`] fails just the calls that are listed, without effect
+//! (`specs/Plan.antt`).
 //!
 //! Stamps, times and the number of a generation are below 2^48, sizes below 2^63, whether a keeper
 //! tells or not.

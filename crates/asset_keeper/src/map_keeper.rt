@@ -83,13 +83,15 @@ impl MapKeeper {
 
 impl Keeper for MapKeeper {
     ghost use Rattle.std.specs.Prelude.{Some};
-    ghost use Rattle.asset_keeper.specs.Shelf.{table_in, faults_of};
+    ghost use Rattle.asset_keeper.specs.Shelf.{table_in, faults_of, plan_in};
 
     ghost table = { λ k. Some (table_in k) };
 
     ghost faults = { faults_of };
 
     ghost found = { λ k. k.found };
+
+    ghost plan = { λ k. Some (plan_in k) };
 
     fn get(&mut self, key: &Key) -> Result<Option<Asset>, KeepErr> {
         if self.fails() {

@@ -1,0 +1,4 @@
+pub mod Blobs
+pub mod Contents
+pub mod Files
+pub mod Verdicts
