@@ -1,0 +1,12 @@
+//! The requests that a stream of bytes holds, in the whole of this project's profile of HTTP/1.1.
+//!
+//! - A request is a head that is refused, or an accepted one with its content: whole, refused, or cut off by the stream's end.
+//!   Line ends between requests are dropped. A refused head, a refused content, a cut one and a request that closes end the
+//!   list (`Item`, `AreRequests`, specs/Requests.antt).
+//! - The list is a relation, and [`one_list`] is the law that a stream holds one list only, up to the choice between the two
+//!   causes `BadHead` and `TooManyHeaders`, which is `httparse`'s where a text is no head at all.
+#![tactic(auto)]
+
+mod laws;
+
+pub use laws::one_list;
