@@ -1,2 +1,3 @@
 pub mod FirstHeads
 pub mod Unique
+pub mod Fronting
