@@ -1,8 +1,8 @@
 -- The framing by how many lengths and codings are given.
-use Rattle.std.proofs.Common.{◌≡◌, ℕ, Bool, List, [], ◌∷◌, Err, refl, sym, subst}
+use Rattle.std.proofs.Common.{◌≡◌, ℕ, Bool, List, [], ◌∷◌, Err, refl, subst}
 use Rattle.http_heads.specs.declared.head_err.HeadErr.TheVariants.{BothFramings, BadCoding, BadLength}
 use Rattle.http_heads.specs.declared.kept.Given.{Given}
-use Rattle.http_heads.specs.declared.kept.Given.TheVariants.{Nothing, One, Several}
+use Rattle.http_heads.specs.declared.kept.Given.TheVariants.{Nothing, Several}
 use Rattle.http_heads.specs.Kept.{IsGiven}
 use Rattle.http_heads.specs.Fields.{decimal_of}
 use Rattle.http_heads.specs.Framings.{coded, sized, unframed, framing_of}

@@ -1,5 +1,5 @@
 -- What the parts of a head give.
-use Rattle.std.proofs.Common.{◌≡◌, ℕ, Bool, true, false, cond, eqb, drop, Result, Err, List, [], ◌∷◌, Option, Some, None, refl, ap, ◌∙◌, sym, unwrap_or, codes}
+use Rattle.std.proofs.Common.{◌≡◌, ℕ, Bool, true, false, cond, eqb, drop, Result, Err, List, [], ◌∷◌, Some, None, refl, ap, ◌∙◌, sym, unwrap_or, codes}
 use Rattle.std.specs.Result.{result_ok}
 use Rattle.std.specs.List.{slice_get}
 use Rattle.nx_base.specs.ContentTypes.{content_type_of}

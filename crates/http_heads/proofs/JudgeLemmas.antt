@@ -1,5 +1,5 @@
 -- The judgement of a head, part by part.
-use Rattle.std.proofs.Common.{◌≡◌, ℕ, Bool, true, false, cond, List, [], ◌∷◌, Option, Some, None, Result, Ok, Err, refl, sym, ap, subst, ◌∙◌, inl, inr, bytes_eq, codes, eqb, drop}
+use Rattle.std.proofs.Common.{◌≡◌, ℕ, Bool, true, false, cond, List, [], ◌∷◌, Option, Some, None, Result, Ok, Err, refl, inl, inr, bytes_eq, codes, eqb, drop}
 use Rattle.std.specs.Prelude.{nat_le, ◌==◌, ◌&&◌}
 use Rattle.std.specs.List.{starts_with}
 use Rattle.nx_base.specs.declared.name_err.NameErr.{NameErr}
@@ -11,13 +11,11 @@ use Rattle.http_heads.specs.declared.framing.Framing.{Framing}
 use Rattle.http_heads.specs.declared.framing.Framing.TheVariants as framings
 use Rattle.http_heads.specs.declared.method.Method.TheVariants as methods
 use Rattle.percent_encoding.specs.Percent.{percent_decode}
-use Rattle.http_heads.specs.declared.head.Head.{Head}
 use Rattle.http_heads.specs.declared.head_err.HeadErr.{HeadErr}
 use Rattle.http_heads.specs.declared.head_err.HeadErr.TheVariants.{HeadTooLarge, TooManyHeaders, BadHead, BadMethod, BadPath, BothFramings, BadCoding, BadLength, LengthRequired, BodyTooLarge, NoMemory}
 use Rattle.http_heads.specs.Fields.{Values, same_word, decimal_of}
 use Rattle.http_heads.specs.Target.{text_before, text_behind, or_bad_path, key_with, named_key, key_of}
 use Rattle.http_heads.specs.Framings.{content_limit, coded, sized, unframed, framing_of}
-use Rattle.http_heads.specs.Options.{type_of, wants_continue, any_close}
 use Rattle.http_heads.specs.Gives.{GivesOr}
 use Rattle.http_heads.specs.Head.{method_of, is_put, asked_with, judged, judge}
 

@@ -1,5 +1,5 @@
 -- Texts without the spaces and tabs at their ends.
-use Rattle.std.proofs.Common.{◌≡◌, ℕ, ◌+◌, ◌-◌, ◌<◌, ◌≤◌, Bool, true, false, List, [], ◌∷◌, ◌++◌, length, get_or, take, drop, reverse, refl, sym, ap, subst, ◌∙◌, arith}
+use Rattle.std.proofs.Common.{◌≡◌, ℕ, ◌+◌, ◌-◌, ◌<◌, ◌≤◌, true, false, List, [], ◌∷◌, ◌++◌, length, get_or, take, drop, reverse, sym, ap, subst, ◌∙◌, arith}
 use Rattle.std.proofs.lemmas.List.{drop_more, take_more, reverse-append, reverse-reverse}
 use Rattle.httparse.specs.Grammar.{is_ows, skip_ows, trim_ows}
 use Rattle.httparse.proofs.TrimLemmas.{skip_ows_yes, skip_ows_no}

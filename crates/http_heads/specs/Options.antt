@@ -1,5 +1,5 @@
 -- What a head says of its content's type, of waiting and of the connection (RFC 9110, sections 7.6.1, 8.3 and 10.1.1).
-use Rattle.std.specs.Prelude.{ℕ, ◌==◌, ◌&&◌, ◌||◌, Bool, false, List, [], ◌∷◌, codes, unwrap_or}
+use Rattle.std.specs.Prelude.{ℕ, ◌==◌, Bool, false, List, [], ◌∷◌, codes, unwrap_or}
 use Rattle.std.specs.List.{list_any, slice_split}
 use Rattle.std.specs.Result.{result_ok}
 use Rattle.httparse.specs.Grammar.{trim_ows}

@@ -1,9 +1,9 @@
-use Rattle.std.proofs.Common.{◌≡◌, ◌∙◌, ℕ, Bool, List, Result, Ok, Err, ap, sym, inl, inr, codes}
+use Rattle.std.proofs.Common.{◌∙◌, ℕ, Bool, List, Result, Ok, Err, ap, inl, inr}
 use Rattle.std.proofs.lemmas.Result.{err_from_is_err_and}
 use Rattle.http_heads.specs.declared.head.Head.{Head}
 use Rattle.http_heads.specs.declared.head_err.HeadErr.{HeadErr}
 use Rattle.http_heads.specs.Framings.{framing_of}
-use Rattle.http_heads.specs.Head.{judge, is_put}
+use Rattle.http_heads.specs.Head.{is_put}
 use Rattle.std.specs.Prelude.{◌&&◌, ◌==◌}
 use Rattle.http_heads.specs.Target.{key_of}
 use Rattle.http_heads.specs.Options.{type_of, wants_continue}

@@ -1,6 +1,6 @@
-use Rattle.std.proofs.Common.{◌≡◌, ◌∙◌, ℕ, List, Result, take, map, length, ap, sym, subst, true, false, refl, arith}
+use Rattle.std.proofs.Common.{◌≡◌, ◌∙◌, ℕ, List, Result, take, map, ap, subst}
 use Rattle.httparse.specs.Grammar.{RequestHead}
-use Rattle.httparse.specs.Spans.{header_bytes, name_and_value}
+use Rattle.httparse.specs.Spans.{name_and_value}
 use Rattle.http_heads.specs.declared.head.Head.{Head}
 use Rattle.http_heads.specs.declared.head_err.HeadErr.{HeadErr}
 use Rattle.std.proofs.lemmas.Bool.{false≢true}

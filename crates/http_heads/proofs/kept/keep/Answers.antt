@@ -1,11 +1,10 @@
-use Rattle.std.proofs.Common.{◌≡◌, ◌∙◌, ◌≤◌, ◌+◌, ℕ, List, length, get_or, map, take, [], refl, ap, sym, subst, arith}
+use Rattle.std.proofs.Common.{◌≡◌, ◌∙◌, ◌+◌, ℕ, List, length, get_or, map, take, [], ap, sym, subst, arith}
 use Rattle.http_header.specs.FieldValue.{FieldValue, plain_value}
 use Rattle.http_header.specs.HeaderMap.{Entries, value_count, append}
 use Rattle.http_header.specs.Token.{lowercase}
-use Rattle.httparse.specs.declared.spans.HeaderSpan.{HeaderSpan}
 use Rattle.httparse.specs.Spans.{header_bytes}
-use Rattle.http_heads.specs.Fields.{Pair, values_of}
-use Rattle.http_heads.specs.Kept.{values_under, Keeps}
+use Rattle.http_heads.specs.Fields.{Pair}
+use Rattle.http_heads.specs.Kept.{Keeps}
 use Rattle.http_heads.proofs.KeptLemmas.{length-append_le, value_count-append, keeps_more, fields_more, keeps_nothing, zero_span}
 use Rattle.http_heads.proofs.kept.keep.Goals as goal
 

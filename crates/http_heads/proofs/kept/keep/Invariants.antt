@@ -1,4 +1,4 @@
-use Rattle.std.proofs.Common.{◌≡◌, ◌≤◌, length, take, map}
+use Rattle.std.proofs.Common.{◌≤◌, length, take, map}
 use Rattle.httparse.specs.Spans.{header_bytes}
 use Rattle.http_header.specs.HeaderMap.{value_count}
 use Rattle.http_heads.specs.Kept.{Keeps}

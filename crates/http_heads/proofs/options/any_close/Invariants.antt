@@ -1,4 +1,4 @@
-use Rattle.std.proofs.Common.{◌≡◌, List, ℕ, map, codes}
+use Rattle.std.proofs.Common.{◌≡◌, map, codes}
 use Rattle.http_header.specs.FieldValue.{FieldValue}
 use Rattle.http_heads.specs.Kept.{values_under}
 use Rattle.http_heads.specs.Options.{any_close}

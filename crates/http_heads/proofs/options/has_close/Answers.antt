@@ -1,4 +1,4 @@
-use Rattle.std.proofs.Common.{◌≡◌, ◌∙◌, ◌+◌, List, ℕ, Bool, true, false, take, length, sym, ap, arith, codes}
+use Rattle.std.proofs.Common.{◌≡◌, ◌∙◌, ◌+◌, List, ℕ, true, false, take, length, sym, ap, arith, codes}
 use Rattle.std.proofs.lemmas.List.{take_rest, length-drop}
 use Rattle.http_heads.specs.Options.{has_close}
 use Rattle.httparse.specs.Grammar.{trim_ows}

@@ -1,4 +1,4 @@
-use Rattle.std.proofs.Common.{ℕ, ◌≡◌, ◌≤◌, List, [], length, drop, arith, ap}
+use Rattle.std.proofs.Common.{ℕ, ◌≡◌, [], length, drop, arith, ap}
 use Rattle.std.proofs.lemmas.List.{length-drop}
 use Rattle.httparse.proofs.GrammarLemmas.{request_unique}
 use Rattle.http_heads.proofs.parse.parse_head.Goals as goal

@@ -1,4 +1,4 @@
-use Rattle.std.proofs.Common.{◌∙◌, List, ℕ, Result, subst, ap, sym}
+use Rattle.std.proofs.Common.{◌∙◌, Result, subst, ap}
 use Rattle.std.proofs.lemmas.List.{take_rest}
 use Rattle.nx_base.specs.declared.key.Key.{Key}
 use Rattle.http_heads.specs.declared.head_err.HeadErr.{HeadErr}

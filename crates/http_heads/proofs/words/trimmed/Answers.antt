@@ -1,4 +1,4 @@
-use Rattle.std.proofs.Common.{◌≡◌, ◌≤◌, ◌<◌, ◌∙◌, List, ℕ, length, reverse, take, arith, subst}
+use Rattle.std.proofs.Common.{◌≡◌, ◌∙◌, ℕ, reverse, take, arith, subst}
 use Rattle.httparse.specs.Grammar.{skip_ows}
 use Rattle.http_heads.proofs.WordLemmas.{trim_step, trim_stop, trim_none}
 use Rattle.http_heads.proofs.words.trimmed.Goals as goal

@@ -1,0 +1,3 @@
+pub mod FirstHeads
+pub mod Unique
+pub mod Fronting
