@@ -9,12 +9,16 @@
 //! download has still to give (`to_come`).
 #![tactic(auto)]
 
+mod creating;
 mod download;
+mod erasing;
 mod ready;
 mod taken;
 mod upload;
 
+pub use creating::create;
 pub use download::Download;
+pub use erasing::erase;
 pub use ready::Ready;
 pub use upload::{Target, Upload};
 
