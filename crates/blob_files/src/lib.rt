@@ -12,6 +12,7 @@
 mod creating;
 mod download;
 mod erasing;
+mod reading;
 mod ready;
 mod taken;
 mod upload;
@@ -19,6 +20,7 @@ mod upload;
 pub use creating::create;
 pub use download::Download;
 pub use erasing::erase;
+pub use reading::{open_bytes, read_props};
 pub use ready::Ready;
 pub use upload::{Target, Upload};
 
