@@ -152,18 +152,110 @@ fn map_keeper_rows(rt: HostRuntime) -> Result<(), Fail> {
     Ok(())
 }
 
+/// All that is done above, one after another: 28 calls.
+fn whole<K: Keeper>(alloc: Global, keeper: &mut K) -> Result<(), Stop> {
+    reads_in_order(alloc, keeper)?;
+    keeps_generation(keeper)
+}
+
+/// A keeper that fails the call with that number.
+fn failing(alloc: Global, call: u64) -> Result<MapKeeper, Stop> {
+    let mut numbers = Vec::new(alloc);
+    match numbers.push(call) {
+        Ok(()) => empty(alloc, numbers),
+        Err(_) => Err(Stop::Keep(KeepErr::NoMemory)),
+    }
+}
+
 #[test]
-fn listed_calls_fail(rt: HostRuntime) -> Result<(), Fail> {
+fn each_listed_call_fails(rt: HostRuntime) -> Result<(), Fail> {
     let a = rt.alloc();
-    for call in 0..3 {
-        let mut failing = Vec::new(a);
-        assert!(rt; failing.push(call).is_ok());
-        let mut keeper = empty(a, failing)?;
-        assert_eq!(rt;
-            reads_in_order(a, &mut keeper),
-            Err(Stop::Keep(KeepErr::Failed))
-        );
-        assert_eq!(rt; keeps_generation(&mut keeper), Ok(()));
+    for call in 0..28 {
+        let mut keeper = failing(a, call)?;
+        assert_eq!(rt; whole(a, &mut keeper), Err(Stop::Keep(KeepErr::Failed)));
+        assert_eq!(rt; whole(a, &mut keeper), Ok(()));
+    }
+    let mut keeper = failing(a, 28)?;
+    assert_eq!(rt; whole(a, &mut keeper), Ok(()));
+    assert_eq!(rt; whole(a, &mut keeper), Err(Stop::Keep(KeepErr::Failed)));
+    Ok(())
+}
+
+/// The path with that number, in three digits.
+fn numbered(alloc: Global, number: u64) -> Result<String, Stop> {
+    match format!(in alloc; "p/{number:03}") {
+        Ok(path) => Ok(path),
+        Err(_) => Err(Stop::Keep(KeepErr::NoMemory)),
+    }
+}
+
+/// A thousand rows, set in another order than that of their keys. Each has its number as its size.
+fn thousand<K: Keeper>(alloc: Global, keeper: &mut K) -> Result<(), Stop> {
+    for turn in 0..1000u64 {
+        let number = turn * 389 % 1000;
+        let path = numbered(alloc, number)?;
+        keeper.apply(&Change::Set(row(alloc, b"files", path.as_bytes(), number)?))?;
+    }
+    Ok(())
+}
+
+/// Whether the row is the one with that number.
+fn is_numbered(alloc: Global, row: &Row, number: u64) -> Result<bool, Stop> {
+    let path = numbered(alloc, number)?;
+    Ok(row.asset.size == number && row.key.path.as_bytes() == path.as_bytes())
+}
+
+/// The number behind those of the rows, if they have the numbers from the given one on.
+fn number_after(alloc: Global, rows: &[Row], first: u64) -> Result<u64, Stop> {
+    let mut number = first;
+    for row in rows {
+        if !is_numbered(alloc, row, number)? {
+            return Err(Stop::Order);
+        }
+        number = number.saturating_add(1);
+    }
+    Ok(number)
+}
+
+/// The key of the last row.
+fn last_key(alloc: Global, rows: &[Row]) -> Result<Option<Key>, Stop> {
+    match rows.last() {
+        None => Ok(None),
+        Some(row) => match row.key.try_clone(alloc) {
+            Ok(key) => Ok(Some(key)),
+            Err(_) => Err(Stop::Keep(KeepErr::NoMemory)),
+        },
+    }
+}
+
+/// How many pages of n rows there are up to the first that is empty, if the rows that they give have the numbers from 0
+/// on to 999.
+fn pages<K: Keeper>(alloc: Global, keeper: &mut K, n: usize) -> Result<usize, Stop> {
+    let n = n.max(1);
+    let mut after: Option<Key> = None;
+    let mut number = 0u64;
+    for read in 0..2000usize {
+        let page = keeper.page(after.as_ref(), n)?;
+        number = number_after(alloc, &page, number)?;
+        after = last_key(alloc, &page)?;
+        if after.is_none() {
+            return if number == 1000 {
+                Ok(read)
+            } else {
+                Err(Stop::Order)
+            };
+        }
+    }
+    Err(Stop::Order)
+}
+
+#[test]
+fn pages_of_a_thousand_rows(rt: HostRuntime) -> Result<(), Fail> {
+    let a = rt.alloc();
+    let mut keeper = empty(a, Vec::new(a))?;
+    assert_eq!(rt; thousand(a, &mut keeper), Ok(()));
+    for (n, read) in [(1, 1000), (2, 500), (256, 4), (1000, 1)] {
+        assert_eq!(rt; pages(a, &mut keeper, n), Ok(read));
     }
     Ok(())
 }

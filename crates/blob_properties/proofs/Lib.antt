@@ -1,0 +1,5 @@
+pub mod Puts
+pub mod Numbers
+pub mod Meanings
+pub mod Round
+pub mod Lengths

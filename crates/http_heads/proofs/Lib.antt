@@ -1,0 +1,11 @@
+pub mod CutLemmas
+pub mod Limits
+pub mod Appends
+pub mod Refusals
+pub mod WordLemmas
+pub mod HeadParts
+pub mod FramingLemmas
+pub mod KeptLemmas
+pub mod OptionLemmas
+pub mod JudgeLemmas
+pub mod ReadLemmas

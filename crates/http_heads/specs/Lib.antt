@@ -1,0 +1,10 @@
+pub mod Cut
+pub mod Fields
+pub mod Target
+pub mod Framings
+pub mod Options
+pub mod Head
+pub mod Kept
+pub mod Parse
+pub mod Gives
+pub mod Response

@@ -1,0 +1,51 @@
+use asset_keeper::KeepErr;
+use nx_base::{NameErr, NoMemory};
+use std::alloc::{AllocError, AllocFailed};
+use std::io;
+
+/// Why nothing was measured.
+#[derive(Debug, Drop)]
+pub enum Stop {
+    /// The words aren't two numbers.
+    Words,
+    Name(NameErr),
+    Keep(KeepErr),
+    Io(io::Error),
+    Memory,
+}
+
+impl From<NameErr> for Stop {
+    fn from(e: NameErr) -> Stop {
+        Stop::Name(e)
+    }
+}
+
+impl From<KeepErr> for Stop {
+    fn from(e: KeepErr) -> Stop {
+        Stop::Keep(e)
+    }
+}
+
+impl From<io::Error> for Stop {
+    fn from(e: io::Error) -> Stop {
+        Stop::Io(e)
+    }
+}
+
+impl From<NoMemory> for Stop {
+    fn from(_: NoMemory) -> Stop {
+        Stop::Memory
+    }
+}
+
+impl From<AllocError> for Stop {
+    fn from(_: AllocError) -> Stop {
+        Stop::Memory
+    }
+}
+
+impl<T: Drop> From<AllocFailed<T>> for Stop {
+    fn from(_: AllocFailed<T>) -> Stop {
+        Stop::Memory
+    }
+}

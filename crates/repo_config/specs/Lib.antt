@@ -1,0 +1,11 @@
+pub mod Words
+pub mod Keys
+pub mod Lists
+pub mod Values
+pub mod Table
+pub mod Settings
+pub mod Refusals
+pub mod Reading
+pub mod Found
+pub mod Told
+pub mod Laws
