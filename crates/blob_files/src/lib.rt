@@ -9,12 +9,18 @@
 //! download has still to give (`to_come`).
 #![tactic(auto)]
 
+mod creating;
 mod download;
+mod erasing;
+mod reading;
 mod ready;
 mod taken;
 mod upload;
 
+pub use creating::create;
 pub use download::Download;
+pub use erasing::erase;
+pub use reading::{open_bytes, read_props};
 pub use ready::Ready;
 pub use upload::{Target, Upload};
 
