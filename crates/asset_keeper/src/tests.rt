@@ -3,6 +3,7 @@ ghost use Rattle.std.specs.Prelude.{IsTrue, IfOk};
 ghost use Rattle.asset_keeper.specs.Ranges.{in_range};
 
 use crate::change::Change;
+use crate::checked_keeper::{CheckedKeeper, RowStore};
 use crate::generation::Generation;
 use crate::keep_err::KeepErr;
 use crate::keeper::Keeper;
@@ -257,5 +258,73 @@ fn pages_of_a_thousand_rows(rt: HostRuntime) -> Result<(), Fail> {
     for (n, read) in [(1, 1000), (2, 500), (256, 4), (1000, 1)] {
         assert_eq!(rt; pages(a, &mut keeper, n), Ok(read));
     }
+    Ok(())
+}
+
+/// Rows outside that are empty, with a generation of that number.
+#[derive(Drop)]
+struct EmptyRows {
+    alloc: Global,
+    number: u64,
+}
+
+impl RowStore for EmptyRows {
+    ghost gets = { λ _ _ _ _. Unit {0} };
+
+    ghost applies = { λ _ _ _ _. Unit {0} };
+
+    ghost pages = { λ _ _ _ _ _. Unit {0} };
+
+    ghost numbers = { λ _ _ _. Unit {0} };
+
+    fn get(&mut self, _key: &Key) -> Result<Option<Asset>, KeepErr> {
+        Ok(None)
+    }
+
+    fn apply(&mut self, _change: &Change) -> Result<(), KeepErr> {
+        Ok(())
+    }
+
+    fn page(&mut self, _after: Option<&Key>, _n: usize) -> Result<Vec<Row>, KeepErr> {
+        Ok(Vec::new(self.alloc))
+    }
+
+    fn generation(&mut self) -> Result<Generation, KeepErr> {
+        Ok(Generation {
+            number: self.number,
+            random: [0; 10],
+        })
+    }
+}
+
+/// The number of the generation, where the keeper finds no row otherwise.
+fn number_of<K: Keeper>(alloc: Global, keeper: &mut K) -> Result<u64, Stop> {
+    let key = key(alloc, b"files", b"a")?;
+    keeper.apply(&Change::Remove(key.try_clone(alloc).or(Err(KeepErr::NoMemory))?))?;
+    if keeper.get(&key)?.is_some() || !keeper.page(None, 1)?.is_empty() {
+        return Err(Stop::Order);
+    }
+    Ok(keeper.generation()?.number)
+}
+
+/// A keeper may be moved to another thread.
+fn needs_send<T: Send>(value: T) -> T {
+    value
+}
+
+#[test]
+fn keepers_over_rows_outside(rt: HostRuntime) -> Result<(), Fail> {
+    let a = rt.alloc();
+    let rows = [
+        (0, Ok(0)),
+        (LAST, Ok(LAST)),
+        (LAST + 1, Err(Stop::Keep(KeepErr::Failed))),
+    ];
+    for (number, answer) in rows {
+        let mut keeper = needs_send(CheckedKeeper::new(EmptyRows { alloc: a, number }));
+        assert_eq!(rt; number_of(a, &mut keeper), answer);
+    }
+    let mut keeper = needs_send(empty(a, Vec::new(a))?);
+    assert_eq!(rt; number_of(a, &mut keeper), Ok(0));
     Ok(())
 }

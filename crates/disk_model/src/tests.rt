@@ -2,6 +2,7 @@
 use crate::silent::SilentDisk;
 use crate::*;
 use nx_base::{Name, NameErr, NoMemory};
+use nx_io::Failed;
 use std::alloc::Global;
 
 #[derive(Debug, Drop)]
@@ -145,6 +146,31 @@ fn failing_parts(rt: HostRuntime) -> Result<(), Stop> {
         assert_eq!(rt; replace_small(&mut disk, &a, b"3"), Ok(()));
         assert_eq!(rt; disk.faults(), 1);
     }
+    Ok(())
+}
+
+#[test]
+fn failing_reads(rt: HostRuntime) -> Result<(), Stop> {
+    let alloc = rt.alloc();
+    let a = name(alloc, "a")?;
+    let b = name(alloc, "b")?;
+    let mut disk = one_file(alloc, Vec::new(alloc), None)?;
+    let mut reads = Vec::new(alloc);
+    if reads.push((1, 1)).is_err() {
+        return Err(Stop::Test);
+    }
+    disk.fail_parts(Vec::new(alloc), reads);
+    let mut buf = [0u8; 2];
+    for second in [Ok(1), Err(Failed), Ok(1)] {
+        assert!(rt; matches!(disk.open_file(&b), Ok(None)));
+        let Ok(Some(mut reader)) = disk.open_file(&a) else {
+            return Err(Stop::Test);
+        };
+        assert_eq!(rt; reader.read(&mut buf), Ok(2));
+        assert_eq!(rt; reader.read(&mut buf), second);
+        disk.end_reader(reader);
+    }
+    assert_eq!(rt; disk.faults(), 1);
     Ok(())
 }
 

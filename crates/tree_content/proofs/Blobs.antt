@@ -16,7 +16,7 @@ use Rattle.blob_paths.specs.Places.{place_of}
 use Rattle.blob_paths.specs.declared.ending.Ending.TheVariants.{Properties}
 use Rattle.blob_properties.specs.Props.{Props}
 use Rattle.blob_properties.specs.Readable.{readable_of}
-use Rattle.tree_content.specs.Blobs.{bytes_name, props_name, SameFiles, Homes, Reads, IsIntact, Live}
+use Rattle.tree_content.specs.Blobs.{bytes_name, props_name, SameFiles, Homes, Reads, IsIntact, IsStray, Live}
 use Rattle.tree_content.specs.Contents.{NoneLive}
 use Rattle.tree_content.specs.Files.{SaysMarked, MarkedOrGone}
 use Rattle.tree_content.proofs.Names.{same_names}
@@ -146,6 +146,21 @@ module _ (homes : Homes) (tree : Tree) (blob : BlobRef) where
       let is_marked : is_some marked.0.deleted ≡ true = marked.2 in
       let is_not : is_some marked.0.deleted ≡ false = ap is_some unmarked in
       true≢false (sym is_marked ∙ is_not)
+
+  -- nor a stray
+  pub stray_is_not_live : (props : Props) → Reads tree blob props → IsStray homes blob props → NoneLive homes tree blob
+  stray_is_not_live props reads stray key other said live same =
+      let is : said ≡ props = says_same tree other blob said props live.intact.readable reads same in
+      let of_key : key ≡ props.key = sym live.of_key ∙ ap (λ (p : Props). p.key) is in
+      let home : homes props.key.repo blob.store ≡ true = subst (λ (s : List ℕ). homes props.key.repo s ≡ true) same.0 (subst (λ (k : Key). homes k.repo other.store ≡ true) of_key live.home) in
+      true≢false (sym home ∙ stray)
+
+  -- nor one that isn't intact
+  pub broken_is_not_live : (props : Props) → Reads tree blob props → (IsIntact tree blob props → ⊥) → NoneLive homes tree blob
+  broken_is_not_live props reads broken key other said live same =
+      let is : said ≡ props = says_same tree other blob said props live.intact.readable reads same in
+      let is_blob : other ≡ blob = blob_same tree other blob said props live.intact.readable reads same in
+      broken (subst (λ (p : Props). IsIntact tree blob p) is (subst (λ (b : BlobRef). IsIntact tree b said) is_blob live.intact))
 
   pub marked_or_gone_is_not_live : MarkedOrGone (place_of blob) tree → NoneLive homes tree blob
   marked_or_gone_is_not_live (inl marked) = marked_is_not_live marked.0 marked.1 marked.2

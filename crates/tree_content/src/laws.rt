@@ -12,7 +12,7 @@ ghost use Rattle.blob_properties.specs.Props.{Props};
 ghost use Rattle.blob_properties.specs.Readable.{readable_of};
 ghost use Rattle.blob_properties.specs.declared.found.Verdict.{Verdict};
 ghost use Rattle.blob_properties.specs.declared.found.Verdict.TheVariants.{Intact};
-ghost use Rattle.tree_content.specs.Blobs.{props_at, props_name, stamped, SameFiles, IsRef, IsBlob, Homes, Reads, IsIntact, Live, IsInContent};
+ghost use Rattle.tree_content.specs.Blobs.{props_at, props_name, stamped, SameFiles, IsRef, IsBlob, Homes, Reads, IsIntact, IsStray, Live, IsInContent};
 ghost use Rattle.tree_content.specs.Contents.{Content, content_of, ContentOf, newest_of, AreLive, Contents, HasContents, with_content, SameContents, SameBeside, OldOrNew, OldOrBlob, OldOrLost, IsNoContent, OnlyLive, NoneLive, NamesEachLive};
 ghost use Rattle.tree_content.specs.Verdicts.{HasVerdict};
 ghost use Rattle.tree_content.specs.Files.{RestOfPlace, Creates, Erases, SaysMarked, IsMarkedAt, MarkedOrGone};
@@ -38,11 +38,14 @@ pub fn other_files_play_no_part()
     ensures tmp { (homes : Homes) (old new : Tree) → Same old new → SameContents homes old new }
 {}
 
-/// A blob is not live where its properties file is absent, can't be read, or says that it is marked.
+/// A blob is not live where its properties file is absent, can't be read, or says that it is marked, nor where it isn't
+/// intact or is a stray.
 pub fn these_are_not_live()
     ensures absent { (homes : Homes) (tree : Tree) (blob : BlobRef) → tree (props_name blob) ≡ None → NoneLive homes tree blob }
     ensures unreadable { (homes : Homes) (tree : Tree) (blob : BlobRef) (text : List ℕ) → tree (props_name blob) ≡ Some text → readable_of text ≡ None → NoneLive homes tree blob }
     ensures marked { (homes : Homes) (tree : Tree) (blob : BlobRef) (text : List ℕ) → tree (props_name blob) ≡ Some text → SaysMarked text → NoneLive homes tree blob }
+    ensures broken { (homes : Homes) (tree : Tree) (blob : BlobRef) (props : Props) → Reads tree blob props → (IsIntact tree blob props → ⊥) → NoneLive homes tree blob }
+    ensures stray { (homes : Homes) (tree : Tree) (blob : BlobRef) (props : Props) → Reads tree blob props → IsStray homes blob props → NoneLive homes tree blob }
 {}
 
 /// Where the files of one blob change, and it is live neither before nor after, no content changes.
