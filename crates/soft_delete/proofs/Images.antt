@@ -11,7 +11,7 @@ use Rattle.tree_content.specs.Blobs.{Homes, IsRef, props_at}
 use Rattle.tree_content.specs.Contents.{SameContents, OldOrBlob, OldOrLost, NoneLive}
 use Rattle.tree_content.specs.Files.{SaysMarked}
 use Rattle.blob_properties.specs.Props.{Props}
-use Rattle.tree_content.proofs.Images.{marking, unmarking}
+use Rattle.tree_content.proofs.Moments.{marked_images, unmarked_images}
 use Rattle.tree_content.proofs.Changes.{tmp_same}
 use Rattle.soft_delete.specs.Marks.{OldOrText}
 
@@ -34,15 +34,11 @@ module _ {D : Type 0} (clock : D → ℕ) (lists : D → ℕ → Lists) (old new
 
     -- the contents, but for a key whose content was the blob
     pub old_or_lost : SaysMarked text → During clock lists old new (EachImage (OldOrLost homes tree blob))
-    old_or_lost says =
-        weaker clock lists (MayPut (props_at (place_of blob)) (Some text) (lists old (clock old))) (EachImage (OldOrLost homes tree blob)) old new
-        (λ l put. marking homes blob ref tree (lists old (clock old)) l settled text says put) at_blob
+    old_or_lost says = marked_images clock lists old new tree homes blob text ref settled says at_blob
 
     -- the contents, or the blob for its key
     pub old_or_blob : NoneLive homes tree blob → During clock lists old new (EachImage (OldOrBlob homes tree blob (readable_of text)))
-    old_or_blob none =
-        weaker clock lists (MayPut (props_at (place_of blob)) (Some text) (lists old (clock old))) (EachImage (OldOrBlob homes tree blob (readable_of text))) old new
-        (λ l put. unmarking homes blob ref tree (lists old (clock old)) l settled text none put) at_blob
+    old_or_blob none = unmarked_images clock lists old new tree homes blob text ref settled none at_blob
 
 -- a disk that nothing was asked of
 module _ {D : Type 0} (clock : D → ℕ) (lists : D → ℕ → Lists) (old : D) (tree : Tree) (settled : Settled tree (lists old (clock old))) where

@@ -1,14 +1,15 @@
 use Rattle.std.proofs.Common.{◌≡◌, ◌∷◌, [], List, ℕ, Some, Option, sym, ◌∙◌, subst}
 use Rattle.disk_model.specs.Disk.{Outside}
 use Rattle.tree_content.specs.Blobs.{bytes_at, props_at}
-use Rattle.blob_files.proofs.Steps.{apart, bytes_only, both_put, renamed, left_alone, on_any}
+use Rattle.tree_content.proofs.Moments.{two_names, creates_first, creates_both}
+use Rattle.blob_files.proofs.Steps.{renamed, left_alone, on_any}
 use Rattle.blob_files.proofs.creating.put_both.Goals as goal
 
 pub returns-in_err-put_sealed-clause-any_moment : goal.returns-in_err-put_sealed-clause-any_moment
 returns-in_err-put_sealed-clause-any_moment g c told =
     let files = c.args.files.now in
     let content = g.D.Writer.Writer.content c.args.file in
-    bytes_only files.place files.bytes_outside files.properties_outside content c.args.props.now g.D.Disk.clock g.D.Disk.lists c.args.disk.now c.put_sealed.new.disk
+    creates_first files.place files.bytes_outside files.properties_outside g.D.Disk.clock g.D.Disk.lists content c.args.props.now c.args.disk.now c.put_sealed.new.disk
     (renamed g.D.Disk.clock g.D.Disk.lists c.args.disk.now c.put_sealed.new.disk c.bytes.result.now (bytes_at files.place) (Some content) c.bytes.ensures (c.put_sealed.ensures.any_moment told))
 
 pub returns-clause-any_moment : goal.returns-clause-any_moment
@@ -19,7 +20,7 @@ returns-clause-any_moment g c told =
     let new = c.replace_small.new.disk in
     let lists = g.D.Disk.lists in
     let clock = g.D.Disk.clock in
-    both_put files.place files.bytes_outside files.properties_outside content c.args.props.now clock lists c.args.disk.now mid new
+    creates_both files.place files.bytes_outside files.properties_outside clock lists content c.args.props.now c.args.disk.now mid new
     (renamed clock lists c.args.disk.now mid c.bytes.result.now (bytes_at files.place) (Some content) c.bytes.ensures (c.put_sealed.ensures.any_moment told))
     (subst (λ (n : List ℕ). lists mid (clock mid) n ≡ Some content ∷ []) c.bytes.ensures (c.in_ok-put_sealed.ensures.settled told))
     (renamed clock lists mid new c.properties.result.now (props_at files.place) (Some c.args.props.now) c.properties.ensures (c.replace_small.ensures.any_moment told (subst Outside (sym c.properties.ensures) files.properties_outside)))
@@ -33,6 +34,6 @@ returns-clause-bytes_settled g c told =
     let lists = g.D.Disk.lists in
     let clock = g.D.Disk.clock in
     on_any c.replace_small.result
-    (left_alone clock lists mid new (props_at files.place) (bytes_at files.place) (Some c.args.props.now) files.bytes_outside (apart files.place)
+    (left_alone clock lists mid new (props_at files.place) (bytes_at files.place) (Some c.args.props.now) files.bytes_outside (two_names files.place)
     (renamed clock lists mid new c.properties.result.now (props_at files.place) (Some c.args.props.now) c.properties.ensures (c.replace_small.ensures.any_moment told (subst Outside (sym c.properties.ensures) files.properties_outside)))
     ∙ subst (λ (n : List ℕ). lists mid (clock mid) n ≡ Some content ∷ []) c.bytes.ensures (c.in_ok-put_sealed.ensures.settled told))

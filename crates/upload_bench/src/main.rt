@@ -1,0 +1,69 @@
+//! Uploads a content of so many parts of 32 KiB of the letter `A` into a file that keeps nothing, then one byte more, and tells
+//! the size, the SHA-1 and whether that byte was refused. The word is the number of parts: of 32,768 the byte is one too many.
+#![tactic(auto)]
+
+ghost use Rattle.std.specs.Prelude.{IsSome, IfOk};
+
+mod drain;
+mod stop;
+
+use crate::drain::Drain;
+use crate::stop::Stop;
+use blob_files::Upload;
+use nx_base::{AssetPath, ContentType, Key, RepoName, StoreName};
+use repo_model::{Begin, Kind, UploadErr};
+use std::alloc::Global;
+use std::env;
+
+/// An upload of which nothing was taken.
+fn begun(alloc: Global) -> Result<Upload<Drain>, Stop>
+    ensures { IfOk result (λ upload. IsSome upload.target) }
+{
+    let begin = Begin {
+        key: Key {
+            repo: RepoName::parse(alloc, b"files")?,
+            path: AssetPath::parse(alloc, b"a")?,
+        },
+        content_type: ContentType::parse(alloc, b"text/plain")?,
+        kind: Kind::Put,
+    };
+    Ok(Upload::new(begin, StoreName::parse(alloc, b"default")?, Drain))
+}
+
+/// Writes so many parts.
+fn write_parts(upload: &mut Upload<Drain>, parts: u64) -> Result<(), Stop>
+    requires { IsSome upload.old.target }
+    ensures { IsSome upload.new.target }
+{
+    let part = [b'A'; 32_768];
+    for _ in 0..parts {
+        upload.write(&part)?;
+    }
+    Ok(())
+}
+
+/// Does all that the word asks for.
+fn measure(rt: &HostRuntime, parts: u64) -> Result<(), Stop> {
+    let mut upload = begun(rt.alloc())?;
+    write_parts(&mut upload, parts)?;
+    let more = match upload.write(b"A") {
+        Ok(()) => "taken",
+        Err(UploadErr::BodyTooLarge) => "refused",
+        Err(e) => return Err(Stop::Upload(e)),
+    };
+    let ready = upload.seal()?;
+    let digest = hex::encode(rt.alloc(), ready.sha1)?;
+    println!(rt; "size {} sha1 {digest} one more {more}", ready.size)?;
+    Ok(())
+}
+
+fn main(rt: HostRuntime) -> Result<(), Stop> {
+    let mut words = env::args(&rt)?;
+    match words.nth(1) {
+        Some(word) => match word.parse::<u64>() {
+            Ok(parts) => measure(&rt, parts),
+            Err(_) => Err(Stop::Words),
+        },
+        None => Err(Stop::Words),
+    }
+}
