@@ -1,5 +1,5 @@
 -- Keys are taken apart into what they are made of.
-use Rattle.std.proofs.Common.{◌≡◌, ◌∙◌, ap, sym, refl, ℕ, suc, ◌+◌, ◌-◌, ◌<◌, List, [], ◌∷◌, ◌++◌, Bool, true, not, cond, length, take, drop, reverse, Option, Some, None, arith, ltb, codes, length-append}
+use Rattle.std.proofs.Common.{◌≡◌, ◌∙◌, ap, ℕ, ◌+◌, ◌-◌, List, ◌∷◌, ◌++◌, Bool, true, not, cond, length, take, drop, Some, arith, codes, length-append}
 use Rattle.std.specs.List.{prefix_len, suffix_len, before_last, after_first}
 use Rattle.std.proofs.lemmas.Bool.{lt-ltb}
 use Rattle.std.proofs.lemmas.List.{reverse-append}
@@ -8,7 +8,7 @@ use Rattle.repo_config.specs.declared.form.Subject.TheVariants.{OfAll, OfStore, 
 use Rattle.repo_config.specs.declared.form.Word.{Word}
 use Rattle.repo_config.specs.declared.form.Word.TheVariants.{Stores, Repositories, Journal, Kind, Layout, Store}
 use Rattle.repo_config.specs.Words.{text}
-use Rattle.repo_config.specs.Keys.{is_dot, has_dot, subject_of, middle_of, tail_of, key_text}
+use Rattle.repo_config.specs.Keys.{is_dot, has_dot, tail_of, key_text}
 use Rattle.repo_config.specs.Laws.{IsParted}
 
 abbrev is_other : ℕ → Bool
