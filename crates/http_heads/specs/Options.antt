@@ -20,9 +20,12 @@ unfoldable pub wants_continue : List (List ℕ) → Bool
 wants_continue [] = false
 wants_continue (text ∷ others) = same_word text (codes "100-continue")
 
+abbrev pub comma : ℕ
+comma = 44
+
 -- whether a value of Connection has the member `close` between commas
 unfoldable pub has_close : List ℕ → Bool
-has_close value = list_any (λ member. same_word (trim_ows member) (codes "close")) (slice_split (λ b. b == 44) value)
+has_close value = list_any (λ member. same_word (trim_ows member) (codes "close")) (slice_split (λ b. b == comma) value)
 
 -- whether one of the values has it
 abbrev pub any_close : List (List ℕ) → Bool

@@ -10,6 +10,13 @@ use Rattle.nx_base.specs.Paths.{path_of}
 use Rattle.http_heads.specs.declared.head_err.HeadErr.{HeadErr}
 use Rattle.http_heads.specs.declared.head_err.HeadErr.TheVariants.{BadPath}
 
+-- the bytes that a target is cut at
+abbrev pub question_mark : ℕ
+question_mark = 63
+
+abbrev pub slash : ℕ
+slash = 47
+
 -- what stands before the first byte of that value, and behind it
 abbrev pub text_before : ℕ → List ℕ → List ℕ
 text_before b text = before_first (λ c. c == b) text
@@ -29,9 +36,9 @@ key_with (Ok repo) (Ok path) = Ok (record { repo = repo; path = path })
 
 -- the key that stands behind `/repository/`: the name as its bytes stand, and the path decoded
 unfoldable pub named_key : List ℕ → Result Key HeadErr
-named_key text = key_with (or_bad_path (name_of (text_before 47 text))) (or_bad_path (path_of (percent_decode (text_behind 47 text))))
+named_key text = key_with (or_bad_path (name_of (text_before slash text))) (or_bad_path (path_of (percent_decode (text_behind slash text))))
 
 -- the key that a target names, or that it names none
 unfoldable pub key_of : List ℕ → Result Key HeadErr
 key_of target =
-    if starts_with eqb (text_before 63 target) (codes "/repository/") then named_key (drop 12 (text_before 63 target)) else Err BadPath
+    if starts_with eqb (text_before question_mark target) (codes "/repository/") then named_key (drop 12 (text_before question_mark target)) else Err BadPath

@@ -105,7 +105,8 @@ fn is_too_long(text: &[u8]) -> bool
     text.len() > HEAD_LIMIT || (text.len() == HEAD_LIMIT && has_no_head(text))
 }
 
-/// Reads a text as one head of a request (RFC 9112, sections 2 to 6).
+/// Reads a text as one head of a request (RFC 9112, sections 2 to 6). The caller hands it a head as [`crate::head_len`] cuts it, or
+/// the first 16,384 bytes where no head lies in them; each other text is answered too.
 pub fn read_head(alloc: Global, text: &[u8]) -> Result<Head, HeadErr>
     ensures { GivesHead text.now result }
 {

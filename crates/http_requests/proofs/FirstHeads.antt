@@ -103,10 +103,10 @@ unfolding merge
 accepts_refused bytes r a why bare x y = elim (answered_err bytes why bare y) [
   | inl long ↦ first_long bytes x.text r bare x.first long.0
   | inr found ↦
-    let same = first_same bytes x.text r found.0.text found.0.rest x.first found.0.first in
-    let there : Answered x.text (Err why) = subst (λ (t : List ℕ). Answered t (Err why)) (sym same.0) found.1 in
-    let clash : ◌≡◌ {A = Result Head HeadErr} (Ok a) (Err (merged_cause why)) = answered_same x.text (Ok a) (Err why) (answered_ok x.text a x.gives) there in
-    absurd cc
+      let same = first_same bytes x.text r found.0.text found.0.rest x.first found.0.first in
+      let there : Answered x.text (Err why) = subst (λ (t : List ℕ). Answered t (Err why)) (sym same.0) found.1 in
+      let clash : ◌≡◌ {A = Result Head HeadErr} (Ok a) (Err (merged_cause why)) = answered_same x.text (Ok a) (Err why) (answered_ok x.text a x.gives) there in
+      absurd cc
 ]
 
 long_same : (bytes : List ℕ) (b c : Bool) → HasTooLong bytes b → HasTooLong bytes c → b ≡ c
@@ -122,10 +122,10 @@ refused_same bytes e f b c x y = elim (answered_err bytes e b x) [
   | inr found ↦ elim (answered_err bytes f c y) [
     | inl long ↦ absurd (first_long bytes found.0.text found.0.rest c found.0.first long.0)
     | inr other ↦
-      let same = first_same bytes found.0.text found.0.rest other.0.text other.0.rest found.0.first other.0.first in
-      let there : Answered found.0.text (Err f) = subst (λ (t : List ℕ). Answered t (Err f)) (sym same.0) other.1 in
-      let answers : ◌≡◌ {A = Result Head HeadErr} (Err (merged_cause e)) (Err (merged_cause f)) = answered_same found.0.text (Err e) (Err f) found.1 there in
-      (cc, found.0.begins ∙ ap asks_for_head same.0 ∙ sym other.0.begins)
+        let same = first_same bytes found.0.text found.0.rest other.0.text other.0.rest found.0.first other.0.first in
+        let there : Answered found.0.text (Err f) = subst (λ (t : List ℕ). Answered t (Err f)) (sym same.0) other.1 in
+        let answers : ◌≡◌ {A = Result Head HeadErr} (Err (merged_cause e)) (Err (merged_cause f)) = answered_same found.0.text (Err e) (Err f) found.1 there in
+        (cc, found.0.begins ∙ ap asks_for_head same.0 ∙ sym other.0.begins)
   ]
 ]
 

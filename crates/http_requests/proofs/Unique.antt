@@ -141,8 +141,7 @@ unfolding Follows Same Joins
 asked_same head (readings.whole content rest) a b i j more x y =
     let shorter : length x.0 < length a = omega (arith, ap (λ (items : List Item). length items) x.1) in
     let tails = goes_same head.closes rest x.0 y.0 i j (more rest x.0 y.0 shorter) x.2 y.2 in
-    let made : List Item → List Item = λ items. whole head content ∷ items in
-    (
+    let made : List Item → List Item = λ items. whole head content ∷ items in (
       ap (λ (items : List Item). map merged items) x.1 ∙ ap made tails.0 ∙ ap (λ (items : List Item). map merged items) (sym y.1),
       tails.1,
     )

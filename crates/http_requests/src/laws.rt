@@ -6,5 +6,4 @@ ghost use Rattle.http_requests.specs.Requests.{Item, AreRequests, merged};
 pub fn one_list()
     ensures { (bytes : List ℕ) (a b : List Item) (i j : Bool) → AreRequests bytes a i → AreRequests bytes b j
         → (map merged a ≡ map merged b) × (i ≡ j) }
-{
-}
+{}
