@@ -1,18 +1,17 @@
 -- A stream holds one list of requests.
-use Rattle.std.proofs.Common.{◌≡◌, ℕ, zero, suc, ◌+◌, ◌<◌, ◌≤◌, ◌⊎◌, Bool, true, false, List, [], ◌∷◌, ◌++◌, length, map, refl, sym, ap, subst, ◌∙◌, arith, inl, inr, length-append}
+use Rattle.std.proofs.Common.{◌≡◌, ℕ, zero, suc, ◌+◌, ◌<◌, ◌⊎◌, Bool, true, false, List, [], ◌∷◌, length, map, refl, sym, ap, subst, ◌∙◌, arith, inl, inr, length-append}
 use Rattle.http_heads.specs.declared.framing.Framing.{Framing}
 use Rattle.http_heads.specs.declared.framing.Framing.TheVariants as framings
 use Rattle.http_heads.specs.declared.head.Head.{Head}
 use Rattle.http_heads.specs.declared.head_err.HeadErr.{HeadErr}
-use Rattle.http_heads.specs.declared.body_err.BodyErr.{BodyErr}
 use Rattle.http_heads.specs.declared.body_err.BodyErr.TheVariants.{BadChunk, BodyTooLarge}
 use Rattle.http_heads.specs.Cut.{drop_blank}
 use Rattle.http_chunks.specs.Reading as readings
 use Rattle.http_chunks.specs.Reading.{Reading, Holds}
 use Rattle.http_chunks.proofs.OneReading.{one_reading}
-use Rattle.http_requests.specs.Heads.{Accepts, IsRefused, EndsInHead, merged_cause}
+use Rattle.http_requests.specs.Heads.{IsRefused, EndsInHead, merged_cause}
 use Rattle.http_requests.specs.Bodies.{HoldsLength, HoldsBody}
-use Rattle.http_requests.specs.Requests.{Item, refused, whole, stopped, cut, stop_of, Asks, AreRequests, merged}
+use Rattle.http_requests.specs.Requests.{Item, refused, whole, stopped, cut, Asks, AreRequests, merged}
 use Rattle.http_requests.proofs.FirstHeads.{one_split, accepts_same, accepts_refused, refused_same, refused_some, refused_open, accepts_some, accepts_open, open_some}
 
 -- ---- one content

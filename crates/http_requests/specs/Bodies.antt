@@ -1,5 +1,5 @@
 -- The content behind an accepted head (RFC 9112, section 6).
-use Rattle.std.specs.Prelude.{◌≡◌, ℕ, ◌<◌, List, [], ◌++◌, length}
+use Rattle.std.specs.Prelude.{◌≡◌, ℕ, ◌<◌, List, ◌++◌, length}
 use Rattle.http_heads.specs.declared.framing.Framing.{Framing}
 use Rattle.http_heads.specs.declared.framing.Framing.TheVariants as framings
 use Rattle.http_chunks.specs.Reading.{Reading, whole, bad, large, cut, Holds}

@@ -1,5 +1,5 @@
 -- The head in front of a stream. What is said here is said of the bytes behind the line ends in front.
-use Rattle.std.specs.Prelude.{◌≡◌, ℕ, ◌<◌, ◌≤◌, Bool, List, ◌++◌, length, Result, Ok, Err, codes, eqb}
+use Rattle.std.specs.Prelude.{◌≡◌, ℕ, ◌<◌, ◌≤◌, Bool, List, ◌++◌, length, Ok, Err, codes, eqb}
 use Rattle.std.specs.List.{starts_with}
 use Rattle.http_heads.specs.declared.head.Head.{Head}
 use Rattle.http_heads.specs.declared.head_err.HeadErr.{HeadErr}
