@@ -1,10 +1,11 @@
 -- The shape of a page, and the reading of a table page by page.
-use Rattle.std.specs.Prelude.{◌≡◌, ◌≤◌, ◌<◌, ℕ, List, [], ◌∷◌, ◌++◌, length, Option, Some, None}
+use Rattle.std.specs.Prelude.{◌≡◌, ◌≤◌, ◌<◌, ℕ, List, [], ◌∷◌, ◌++◌, length, Option, Some, None, IsTrue}
 use Rattle.std.specs.declared.cmp.Ordering.TheVariants.{Less}
 use Rattle.std.specs.FinMap as table
 use Rattle.nx_base.specs.declared.key.Key.{Key}
 use Rattle.nx_base.specs.declared.row.Row.{Row}
 use Rattle.nx_base.specs.Order.{key_cmp}
+use Rattle.asset_keeper.specs.Ranges.{rows_in_range}
 use Rattle.asset_keeper.specs.Table.{Table, page_of, entries_after}
 
 -- the key comes after the other, if there is one
@@ -21,6 +22,10 @@ RiseAfter after (row ∷ rows) = IsAfter after row.key × RiseAfter (Some row.ke
 pub record IsPageAfter (after : Option Key) (n : ℕ) (rows : List Row) : Type 0 where
   pub few : length rows ≤ n
   pub rising : RiseAfter after rows
+
+-- what a table may give as the next n rows after the key
+abbrev pub MayGive : Option Key → ℕ → List Row → Type 0
+MayGive after n rows = IsPageAfter after n rows × IsTrue (rows_in_range rows)
 
 -- the key of the last row, or else the one given
 abbrev pub last_key : Option Key → List Row → Option Key

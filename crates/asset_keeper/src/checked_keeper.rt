@@ -9,7 +9,7 @@ ghost use Rattle.asset_keeper.specs.declared.change.Change.{Change};
 ghost use Rattle.asset_keeper.specs.declared.generation.Generation.{Generation};
 ghost use Rattle.asset_keeper.specs.declared.keep_err.KeepErr.{KeepErr};
 ghost use Rattle.asset_keeper.specs.Causes.{IsFault};
-ghost use Rattle.asset_keeper.specs.Pages.{IsPageAfter};
+ghost use Rattle.asset_keeper.specs.Pages.{IsPageAfter, MayGive};
 ghost use Rattle.asset_keeper.specs.Ranges.{found_in_range, rows_in_range, generation_in_range};
 
 use crate::change::Change;
@@ -100,7 +100,7 @@ impl<S: RowStore + Drop> CheckedKeeper<S> {
 
 impl<S: RowStore + Drop> Keeper for CheckedKeeper<S> {
     ghost use Rattle.std.specs.Prelude.{None};
-    ghost use Rattle.asset_keeper.specs.Checked.{store_of, count_of, found_of, HandsOn, MayHandOn};
+    ghost use Rattle.asset_keeper.specs.Checked.{store_of, count_of, found_of, HandsOn};
 
     ghost table = { λ _. None };
 
@@ -111,7 +111,7 @@ impl<S: RowStore + Drop> Keeper for CheckedKeeper<S> {
     ghost plan = { λ _. None };
 
     fn get(&mut self, key: &Key) -> Result<Option<Asset>, KeepErr>
-        ensures asked { (answer : Result (Option Asset) KeepErr) × S.gets (store_of self.old) key.now answer (store_of self.new) × HandsOn found_in_range answer result }
+        ensures asked { (answer : Result (Option Asset) KeepErr) × S.gets (store_of self.old) key.now answer (store_of self.new) × HandsOn (λ asset. IsTrue (found_in_range asset)) answer result }
         ensures answer { MatchResult result (λ asset. found_of self.new ≡ is_some asset) (λ _. found_of self.new ≡ found_of self.old) }
         ensures range { IfOk result (λ asset. IsTrue (found_in_range asset)) }
         ensures cause { HasCauseWhere IsFault (count_of self.old) (count_of self.new) result }
@@ -142,7 +142,7 @@ impl<S: RowStore + Drop> Keeper for CheckedKeeper<S> {
     }
 
     fn page(&mut self, after: Option<&Key>, n: usize) -> Result<Vec<Row>, KeepErr>
-        ensures asked { (answer : Result (Vec Row Global) KeepErr) × S.pages (store_of self.old) (option_copied after.entry) n answer (store_of self.new) × MayHandOn answer result }
+        ensures asked { (answer : Result (Vec Row Global) KeepErr) × S.pages (store_of self.old) (option_copied after.entry) n answer (store_of self.new) × HandsOn (λ rows. MayGive (option_copied after.entry) n rows.items) answer result }
         ensures answer { found_of self.new ≡ found_of self.old }
         ensures shape { IfOk result (λ rows. IsPageAfter (option_copied after.entry) n rows.items) }
         ensures range { IfOk result (λ rows. IsTrue (rows_in_range rows.items)) }
@@ -161,7 +161,7 @@ impl<S: RowStore + Drop> Keeper for CheckedKeeper<S> {
     }
 
     fn generation(&mut self) -> Result<Generation, KeepErr>
-        ensures asked { (answer : Result Generation KeepErr) × S.numbers (store_of self.old) answer (store_of self.new) × HandsOn generation_in_range answer result }
+        ensures asked { (answer : Result Generation KeepErr) × S.numbers (store_of self.old) answer (store_of self.new) × HandsOn (λ g. IsTrue (generation_in_range g)) answer result }
         ensures answer { found_of self.new ≡ found_of self.old }
         ensures range { IfOk result (λ g. IsTrue (generation_in_range g)) }
         ensures cause { HasCauseWhere IsFault (count_of self.old) (count_of self.new) result }

@@ -1,7 +1,7 @@
 ghost use Rattle.std.specs.Prelude.{◌≡◌, IsTrue, ◌≤◌, length, List};
 ghost use Rattle.std.specs.Option.{option_copied};
 ghost use Rattle.asset_keeper.specs.Ranges.{is_time, in_range, rows_in_range};
-ghost use Rattle.asset_keeper.specs.Pages.{IsAfter, RiseAfter, IsPageAfter};
+ghost use Rattle.asset_keeper.specs.Pages.{IsAfter, RiseAfter, MayGive};
 
 use nx_base::{Asset, Key, Row};
 
@@ -31,7 +31,8 @@ pub(crate) fn are_in_range(rows: &[Row]) -> bool
 
 /// Whether the key comes after the other, if there is one.
 fn is_after(other: Option<&Key>, key: &Key) -> bool
-    ensures { IsTrue result → IsAfter (option_copied other.entry) key.now }
+    ensures yes { IsTrue result → IsAfter (option_copied other.entry) key.now }
+    ensures no { IsAfter (option_copied other.entry) key.now → IsTrue result }
 {
     match other {
         None => true,
@@ -41,7 +42,8 @@ fn is_after(other: Option<&Key>, key: &Key) -> bool
 
 /// Whether the keys strictly rise, the first from the key before it.
 fn do_rise(after: Option<&Key>, rows: &[Row]) -> bool
-    ensures { IsTrue result → RiseAfter (option_copied after.entry) rows.now }
+    ensures yes { IsTrue result → RiseAfter (option_copied after.entry) rows.now }
+    ensures no { RiseAfter (option_copied after.entry) rows.now → IsTrue result }
 {
     let mut last = after;
     for row in rows {
@@ -55,8 +57,8 @@ fn do_rise(after: Option<&Key>, rows: &[Row]) -> bool
 
 /// Whether a table may give those rows as the next n after the key.
 pub(crate) fn is_page(after: Option<&Key>, n: usize, rows: &[Row]) -> bool
-    ensures shape { IsTrue result → IsPageAfter (option_copied after.entry) n rows.now }
-    ensures range { IsTrue result → IsTrue (rows_in_range rows.now) }
+    ensures yes { IsTrue result → MayGive (option_copied after.entry) n rows.now }
+    ensures no { MayGive (option_copied after.entry) n rows.now → IsTrue result }
 {
     rows.len() <= n && are_in_range(rows) && do_rise(after, rows)
 }

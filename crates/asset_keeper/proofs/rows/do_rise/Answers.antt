@@ -11,7 +11,8 @@ from_row rows i row lt is =
     drop-cons rows i row lt ∙ ap (λ (r : Row). r ∷ drop (suc i) rows) (sym is) ∙ ap (λ (k : ℕ). row ∷ drop k rows) (sym (add-one i))
 
 pub loop-row-preserved : goal.loop-row-preserved
-loop-row-preserved c = λ rest.
-    c.loop-row.invariant (subst (RiseAfter (option_copied c.loop-row.last))
-    (sym (from_row c.args.rows.now c.loop-row.row-index c.row-item.result c.loop-row-test.true c.row-item.is))
-    (c.is_after.ensures c.if-not-is_after.false, rest))
+loop-row-preserved c =
+    let begins = from_row c.args.rows.now c.loop-row.row-index c.row-item.result c.loop-row-test.true c.row-item.is in (
+      (λ rest. c.loop-row.invariant.0 (subst (RiseAfter (option_copied c.loop-row.last)) (sym begins) (c.is_after.ensures.yes c.if-not-is_after.false, rest))),
+      (λ all. (subst (RiseAfter (option_copied c.loop-row.last)) begins (c.loop-row.invariant.1 all)).1),
+    )
