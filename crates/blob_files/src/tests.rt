@@ -49,11 +49,9 @@ fn stored(alloc: Global, disk: &mut MemDisk) -> Result<Option<&'static str>, Fai
         return Ok(Some("temp"));
     };
     let mut upload = Upload::new(begin(alloc)?, StoreName::parse(alloc, b"default")?, writer);
-    for part in [b"ab".as_slice(), b"c".as_slice()] {
-        if upload.write(part).is_err() {
-            disk.give_up(upload.into_writer());
-            return Ok(Some("write"));
-        }
+    if upload.write(b"ab").is_err() || upload.write(b"c").is_err() {
+        disk.give_up(upload.into_writer());
+        return Ok(Some("write"));
     }
     let Ok(ready) = upload.seal() else {
         disk.give_up(upload.into_writer());
