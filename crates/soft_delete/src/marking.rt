@@ -6,7 +6,8 @@ ghost use Rattle.disk_model.specs.Moments.{During, MayPut, Settled, EachImage};
 ghost use Rattle.nx_base.specs.declared.blob_ref.BlobRef.{BlobRef};
 ghost use Rattle.java_props.specs.Writing.{value_text};
 ghost use Rattle.blob_paths.specs.Places.{place_of};
-ghost use Rattle.blob_properties.specs.Readable.{marked_text_of, unmarked_text_of, readable_of, HasRoom};
+ghost use Rattle.blob_properties.specs.Readable.{Readable, marked_text_of, unmarked_text_of, readable_of, HasRoom};
+ghost use Rattle.blob_properties.specs.Props.{with_mark};
 ghost use Rattle.tree_content.specs.Contents.{OldOrBlob, OldOrLost, NoneLive};
 ghost use Rattle.tree_content.specs.Blobs.{Homes, IsRef, props_at};
 ghost use Rattle.soft_delete.specs.Marks.{IsFault, OldOrText};
@@ -29,6 +30,8 @@ pub fn stage_mark<D: Disk>(
 ) -> Result<D::Sealed, MarkErr>
     requires time { at < 2 ^ 48 }
     ensures content { D.told → IfOk result (λ file. D.Writer.content file ≡ marked_text_of props.now reason.now at) }
+    // The text can be read again, and says the mark, where the reason has at most 100 written bytes.
+    ensures readable { HasRoom props.now → length (value_text reason.now) ≤ 100 → OnOk result (Readable (marked_text_of props.now reason.now at) (with_mark props.now reason.now at)) }
     ensures tree { D.told → Same (D.tree disk.old) (D.tree disk.new) }
     ensures any_moment { D.told → During D.clock D.lists disk.old disk.new (Same (D.lists disk.old (D.clock disk.old))) }
     ensures full { IsErrOf result refused.Full ↔ (247 < length props.now.others) }

@@ -1,0 +1,11 @@
+pub mod Maps
+pub mod Readings
+pub mod Samenesses
+pub mod Markings
+pub mod Steps
+pub mod Runs
+pub mod Reasons
+pub mod Looks
+pub mod Tables
+pub mod Givings
+pub mod Finishings

@@ -1,0 +1,149 @@
+use Rattle.std.proofs.Common.{rules, ◌≡◌, ◌≤◌, ℕ, Option, Some, None, List, [], Err, codes, inl, inr, ⊎_elim, OnOk, refl, sym, ◌∙◌, ap, subst, arith}
+use Rattle.std.specs.FinMap as map
+use Rattle.nx_base.specs.Order.{key_cmp}
+use Rattle.nx_base.specs.declared.asset.Asset.{Asset}
+use Rattle.disk_model.specs.Disk.{Same}
+use Rattle.disk_model.specs.Moments.{MayPut}
+use Rattle.disk_model.proofs.Images.{settled_same, settled_put}
+use Rattle.asset_keeper.specs.Table.{changed}
+use Rattle.asset_keeper.specs.Told.{Tells}
+use Rattle.asset_keeper.specs.declared.change.Change.{Change}
+use Rattle.asset_keeper.specs.declared.change.Change.TheVariants as change
+use Rattle.repo_model.specs.declared.call.Call.TheVariants as call
+use Rattle.repo_model.specs.declared.reply.Reply.TheVariants as reply
+use Rattle.repo_model.specs.Plain.{config_of}
+use Rattle.repo_model.specs.Stamps.{time_of}
+use Rattle.repo_model.specs.Deleting.{without_row, discarded}
+use Rattle.tree_content.specs.Blobs.{props_at}
+use Rattle.repo_core.specs.declared.denial.Denial.{Denial}
+use Rattle.repo_core.specs.Ends.{Denies}
+use Rattle.repo_core.specs.Marks.{IsMarkOf}
+use Rattle.repo_core.specs.Rows.{rows_in}
+use Rattle.repo_core.specs.Faults.{of_disk}
+use Rattle.repo_core.proofs.Steps.{fault_denies}
+use Rattle.repo_core.proofs.Tables.{rows_same, rows_changed, still_told}
+use Rattle.repo_core.proofs.Runs.{nothing_ran, at_end}
+use Rattle.repo_core.proofs.Givings.{crash_same, crash_marked, marks_done, agrees_same, agrees_gone, is_readable}
+use Rattle.repo_core.proofs.deleting.give_up_row.Goals as goal
+
+abbrev deleted : List ℕ
+deleted = codes "Deleted by request"
+
+pub returns-in-Err-clause-ends : goal.returns-in-Err-clause-ends
+returns-in-Err-clause-ends g c = λ told some s a.
+    let config = config_of c.args.config.now in
+    let tree = g.D.Disk.tree c.args.disk.now in
+    let rows = rows_same (g.T.Keeper.table c.args.table.now) (g.T.Keeper.table c.row_to_delete.new.table) some c.in-Err.ensures.same in (
+      c.in-Err.ensures.row some s a.sound a.rows_are,
+      agrees_same config tree tree (rows_in (g.T.Keeper.table c.args.table.now)) (rows_in (g.T.Keeper.table c.row_to_delete.new.table)) c.args.own.now c.args.own.now s (λ n out. refl) rows refl a,
+    )
+
+pub returns-in-Err-clause-crash : goal.returns-in-Err-clause-crash
+returns-in-Err-clause-crash g c = λ told some s a settled.
+    crash_same (config_of c.args.config.now) (g.D.Disk.tree c.args.disk.now) s a.files g.D.Disk.clock g.D.Disk.lists c.args.disk.now c.args.disk.now (call.Delete c.args.key.now c.args.now) settled
+    (nothing_ran g.D.Disk.clock g.D.Disk.lists c.args.disk.now)
+
+pub returns-in-Err-stage-clause-ends : goal.returns-in-Err-stage-clause-ends
+returns-in-Err-stage-clause-ends g c = λ told some s a.
+    let config = config_of c.args.config.now in
+    let tree = g.D.Disk.tree c.args.disk.now in
+    let before = g.T.Keeper.table c.args.table.now in
+    let after = g.T.Keeper.table c.row_to_delete.new.table in
+    let rows = rows_same before after some c.row_to_delete.ensures.same in
+    let may = c.in-Ok.ensures.row some s a.sound a.rows_are in
+    let asked = call.Delete c.args.key.now c.args.now in (
+      ⊎_elim
+          (λ fault. subst (λ (why : Denial). Denies config s asked why) (sym fault.1) (fault_denies config s asked (of_disk fault.0) a.sound))
+          (λ bad. let r = is_readable config tree s a.files c.args.key.now c.in-Ok.asset may.0 in absurd (bad.1 told r.0 r.1 r.2 r.3))
+          c.in-Err-stage.ensures.denied,
+      agrees_same config tree (g.D.Disk.tree c.stage.new.disk) (rows_in before) (rows_in after) c.args.own.now c.stage.new.own s (c.stage.ensures.tree told) rows c.in-Err-stage.ensures.clean a,
+    )
+
+pub returns-in-Err-stage-clause-crash : goal.returns-in-Err-stage-clause-crash
+returns-in-Err-stage-clause-crash g c = λ told some s a settled.
+    crash_same (config_of c.args.config.now) (g.D.Disk.tree c.args.disk.now) s a.files g.D.Disk.clock g.D.Disk.lists c.args.disk.now c.stage.new.disk (call.Delete c.args.key.now c.args.now) settled
+    (c.stage.ensures.any_moment told)
+
+pub returns-in-Err-stage-clause-durable : goal.returns-in-Err-stage-clause-durable
+returns-in-Err-stage-clause-durable g c = λ told unbroken settled.
+    let clock = g.D.Disk.clock in
+    let lists = g.D.Disk.lists in
+    let tree = g.D.Disk.tree in
+    let d0 = c.args.disk.now in
+    let d1 = c.stage.new.disk in
+    settled_same (tree d0) (tree d1) (lists d0 (clock d0)) (lists d1 (clock d1)) settled (c.stage.ensures.tree told)
+    (at_end clock lists d0 d1 (Same (lists d0 (clock d0))) (c.stage.ensures.any_moment told))
+
+pub returns-in-Ok-show-clause-ends : goal.returns-in-Ok-show-clause-ends
+returns-in-Ok-show-clause-ends g c = λ told some s a.
+    let config = config_of c.args.config.now in
+    let tree = g.D.Disk.tree in
+    let table = g.T.Keeper.table in
+    let key = c.args.key.now in
+    let at = time_of c.args.now in
+    let asset = c.in-Ok.asset in
+    let mark = c.in-Ok-stage.staged.mark in
+    let change_is = c.in-Ok-stage.ensures.change in
+    let told_rows : Tells (table c.row_to_delete.new.table) (table c.show.new.table) (λ t u. u ≡ changed t (change.Remove key)) =
+    subst (λ (ch : Change). Tells (table c.row_to_delete.new.table) (table c.show.new.table) (λ t u. u ≡ changed t ch)) change_is c.in-Ok-show.ensures.rows in
+    let here = still_told (λ t u. u ≡ changed t (change.Remove key)) (table c.row_to_delete.new.table) (table c.show.new.table) some told_rows in
+    let may = c.in-Ok.ensures.row here s a.sound a.rows_are in
+    let staged = subst (λ (t : ℕ). IsMarkOf g.D.Writer.Writer.content (tree c.args.disk.now) asset.blob deleted t mark) c.time.ensures (c.in-Ok-stage.ensures.mark told) in
+    let marks = marks_done config (tree c.args.disk.now) s a.files key asset may.0 (call.Delete key c.args.now) g.D.Writer.Writer.content deleted at mark staged
+    (tree c.stage.new.disk) (tree c.show.new.disk) (c.stage.ensures.tree told) (c.in-Ok-show.ensures.named told) (c.show.ensures.rest told) in
+    let same = rows_same (table c.args.table.now) (table c.row_to_delete.new.table) here c.row_to_delete.ensures.same in
+    let gone = rows_changed (table c.row_to_delete.new.table) (table c.show.new.table) (change.Remove key) some told_rows
+    (λ (r : map.FinMap key_cmp Asset). map.remove r key) (λ t. refl) in
+    let rows : rows_in (table c.show.new.table) ≡ map.remove (rows_in (table c.args.table.now)) key = gone ∙ ap (λ (r : map.FinMap key_cmp Asset). map.remove r key) same in (
+      without_row s key asset at,
+      ([], may.1),
+      agrees_gone config (tree c.args.disk.now) (tree c.show.new.disk) (rows_in (table c.args.table.now)) (rows_in (table c.show.new.table)) c.args.own.now c.stage.new.own s key asset deleted at a marks rows
+          (c.in-Ok-stage.ensures.trash ∙ ap (λ (t : ℕ). record c.args.own.now { trash = discarded c.args.own.now.trash key asset t }) c.time.ensures),
+    )
+
+pub returns-in-Ok-show-clause-crash : goal.returns-in-Ok-show-clause-crash
+returns-in-Ok-show-clause-crash g c = λ told some s a settled.
+    let config = config_of c.args.config.now in
+    let tree = g.D.Disk.tree in
+    let table = g.T.Keeper.table in
+    let key = c.args.key.now in
+    let at = time_of c.args.now in
+    let change_is = c.in-Ok-stage.ensures.change in
+    let told_rows : Tells (table c.row_to_delete.new.table) (table c.show.new.table) (λ t u. u ≡ changed t (change.Remove key)) =
+    subst (λ (ch : Change). Tells (table c.row_to_delete.new.table) (table c.show.new.table) (λ t u. u ≡ changed t ch)) change_is c.in-Ok-show.ensures.rows in
+    let here = still_told (λ t u. u ≡ changed t (change.Remove key)) (table c.row_to_delete.new.table) (table c.show.new.table) some told_rows in
+    let may = c.in-Ok.ensures.row here s a.sound a.rows_are in
+    crash_marked config (tree c.args.disk.now) s a.files key c.in-Ok.asset may.0 (call.Delete key c.args.now) g.D.Writer.Writer.content deleted at c.in-Ok-stage.staged.mark (subst (λ (t : ℕ). IsMarkOf g.D.Writer.Writer.content (tree c.args.disk.now) c.in-Ok.asset.blob deleted t c.in-Ok-stage.staged.mark) c.time.ensures (c.in-Ok-stage.ensures.mark told))
+    g.D.Disk.clock g.D.Disk.lists c.args.disk.now c.stage.new.disk c.show.new.disk (without_row s key c.in-Ok.asset at) reply.Gone ([], may.1) refl refl settled
+    (c.stage.ensures.any_moment told) (c.show.ensures.any_moment told)
+
+pub returns-in-Ok-show-clause-durable : goal.returns-in-Ok-show-clause-durable
+returns-in-Ok-show-clause-durable g c = λ told unbroken settled.
+    let clock = g.D.Disk.clock in
+    let lists = g.D.Disk.lists in
+    let tree = g.D.Disk.tree in
+    let d0 = c.args.disk.now in
+    let d1 = c.stage.new.disk in
+    let d2 = c.show.new.disk in
+    let mark = c.in-Ok-stage.staged.mark in
+    let name = props_at mark.files.place in
+    let value = Some (g.D.Writer.Writer.content mark.file) in
+    let put = at_end clock lists d1 d2 (MayPut name value (lists d1 (clock d1))) (c.show.ensures.any_moment told) in
+    let same = at_end clock lists d0 d1 (Same (lists d0 (clock d0))) (c.stage.ensures.any_moment told) in
+    settled_put name value (tree d0) (tree d2) (lists d0 (clock d0)) (lists d2 (clock d2)) settled
+    (λ n out other. c.show.ensures.rest told n out other ∙ c.stage.ensures.tree told n out)
+    (λ n out other. put.rest n out other ∙ same n out)
+    (c.in-Ok-show.ensures.named told) (c.in-Ok-show.ensures.settled told)
+
+pub returns-clause-crash : goal.returns-clause-crash
+returns-clause-crash g c = λ told some s a settled.
+    let config = config_of c.args.config.now in
+    let tree = g.D.Disk.tree in
+    let table = g.T.Keeper.table in
+    let key = c.args.key.now in
+    let at = time_of c.args.now in
+    let here = still_told (λ t u. OnOk {T = Unit {0}} (Err c.in-Err-show.fault) (u ≡ changed t c.in-Ok-stage.staged.change)) (table c.row_to_delete.new.table) (table c.show.new.table) some c.in-Err-show.ensures.rows in
+    let may = c.in-Ok.ensures.row here s a.sound a.rows_are in
+    crash_marked config (tree c.args.disk.now) s a.files key c.in-Ok.asset may.0 (call.Delete key c.args.now) g.D.Writer.Writer.content deleted at c.in-Ok-stage.staged.mark (subst (λ (t : ℕ). IsMarkOf g.D.Writer.Writer.content (tree c.args.disk.now) c.in-Ok.asset.blob deleted t c.in-Ok-stage.staged.mark) c.time.ensures (c.in-Ok-stage.ensures.mark told))
+    g.D.Disk.clock g.D.Disk.lists c.args.disk.now c.stage.new.disk c.show.new.disk (without_row s key c.in-Ok.asset at) reply.Gone ([], may.1) refl refl settled
+    (c.stage.ensures.any_moment told) (c.show.ensures.any_moment told)

@@ -1,0 +1,33 @@
+-- How the work of a call ends.
+use Rattle.std.specs.Prelude.{◌≡◌, ℕ, [], Result, Ok, Err, Some}
+use Rattle.nx_base.specs.declared.key.Key.{Key}
+use Rattle.nx_base.specs.declared.asset.Asset.{Asset}
+use Rattle.repo_model.specs.declared.call.Call.{Call}
+use Rattle.repo_model.specs.declared.call.Call.TheVariants as call
+use Rattle.repo_model.specs.declared.reply.Reply.{Reply}
+use Rattle.repo_model.specs.declared.reply.Reply.TheVariants as reply
+use Rattle.repo_model.specs.Config.{Config}
+use Rattle.repo_model.specs.State.{State, row_of}
+use Rattle.repo_model.specs.Deleting.{gone}
+use Rattle.repo_model.specs.Step.{Step, outcome}
+use Rattle.repo_model.specs.History.{Follows}
+use Rattle.repo_core.specs.declared.denial.Denial.{Denial}
+use Rattle.repo_core.specs.declared.stop.Stop.{Stop}
+use Rattle.repo_core.specs.declared.stop.Stop.TheVariants as stop
+use Rattle.repo_core.specs.Faults.{refusal_for}
+
+-- the state allows this denial, as any entry's, and stays
+abbrev pub Denies : Config → State → Call → Denial → Type 0
+Denies config s c why = (number caller : ℕ) → Follows config number s (record { caller = caller; call = c; reply = reply.Refused (refusal_for why) }) s
+
+-- The work is done, and a step leads to a state that agrees; or it is denied, and the state stays. After a fault halfway nothing
+-- is asked.
+abbrev pub Ends : {A : Type 0} → Config → State → Call → (A → Reply) → (State → Type 0) → Result A Stop → Type 0
+Ends config s c says agrees (Ok value) = (new : State) × Step config s c (says value) new × agrees new
+Ends config s c says agrees (Err (stop.Denied why)) = Denies config s c why × agrees s
+Ends config s c says agrees (Err (stop.Broke what)) = Unit {0}
+
+-- the row that a deletion takes, or why it takes none
+abbrev pub MayDelete : Config → State → Key → ℕ → Result Asset Denial → Type 0
+MayDelete config s key now (Ok asset) = (row_of s key ≡ Some asset) × (outcome config s [] (call.Delete key now) ≡ gone s key now asset)
+MayDelete config s key now (Err why) = Denies config s (call.Delete key now) why

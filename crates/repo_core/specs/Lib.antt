@@ -1,0 +1,9 @@
+pub mod Stores
+pub mod Rows
+pub mod Agree
+pub mod View
+pub mod Faults
+pub mod Answers
+pub mod Standing
+pub mod Ends
+pub mod Marks

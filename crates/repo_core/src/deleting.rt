@@ -1,0 +1,194 @@
+ghost use Rattle.std.specs.Prelude.{◌≡◌, ◌<◌, ◌^◌, ◌∷◌, [], true, false, codes, IfOk, IfErr, OnOk, OnErr, IsErrOf, IsSome, IsTrue, Some};
+ghost use Rattle.std.specs.FinMap as map;
+ghost use Rattle.nx_io.specs.Causes.{HasCauseWhere};
+ghost use Rattle.disk_model.specs.Disk.{Same, Rest};
+ghost use Rattle.disk_model.specs.Moments.{During, MayPut, EachImage};
+ghost use Rattle.asset_keeper.specs.Table.{changed};
+ghost use Rattle.asset_keeper.specs.Ranges.{change_in_range};
+ghost use Rattle.asset_keeper.specs.declared.change.Change.TheVariants as change;
+ghost use Rattle.tree_content.specs.Blobs.{props_at};
+ghost use Rattle.repo_model.specs.Deleting.{discarded};
+ghost use Rattle.repo_core.specs.Marks.{IsMarkOf, NotStaged};
+ghost use Rattle.asset_keeper.specs.Told.{Tells};
+ghost use Rattle.repo_model.specs.State.{State};
+ghost use Rattle.repo_model.specs.Plain.{config_of};
+ghost use Rattle.repo_model.specs.declared.call.Call.TheVariants as call;
+ghost use Rattle.repo_model.specs.declared.reply.Reply.TheVariants as reply;
+ghost use Rattle.repo_core.specs.declared.denial.Denial.TheVariants as denial;
+ghost use Rattle.repo_core.specs.declared.stop.Stop.TheVariants as stop;
+ghost use Rattle.repo_core.specs.Rows.{rows_in};
+ghost use Rattle.repo_core.specs.Agree.{Agrees};
+ghost use Rattle.repo_core.specs.Faults.{IsDisk, IsKeeper, DeniedBy, StoppedBy};
+ghost use Rattle.repo_core.specs.Answers.{is_denied, is_broke};
+ghost use Rattle.repo_core.specs.Standing.{IsDurable, BeforeOrAfter};
+ghost use Rattle.repo_core.specs.Ends.{MayDelete, Ends};
+
+use crate::denial::{Denial, disk_fault, keeper_fault};
+use crate::marking::{Mark, stage_mark};
+use crate::own::Own;
+use crate::rules::bars_delete;
+use crate::stop::Stop;
+use asset_keeper::{Change, Keeper};
+use disk_model::Disk;
+use nx_base::{Asset, BlobRef, Key, NoMemory, Policy};
+use repo_model::plain::{PlainConfig, find_repo, time};
+use repo_model::{Deletion, Fault};
+use soft_delete::place;
+use std::alloc::Global;
+
+/// The reason of a deletion that a client asked for, as Sonatype Nexus writes it.
+const REASON: &str = "Deleted by request";
+
+/// The row that a deletion takes.
+fn row_to_delete<T: Keeper>(
+    table: &mut T,
+    config: &PlainConfig,
+    key: &Key,
+    now: u64,
+) -> Result<Asset, Denial>
+    ensures same { Tells (T.table table.old) (T.table table.new) (λ s t. t ≡ s) }
+    ensures cause { HasCauseWhere (DeniedBy IsKeeper) (T.faults table.old) (T.faults table.new) result }
+    ensures keeper_alone { IfErr result (λ why. ¬ DeniedBy IsDisk why) }
+    ensures not_found { IsErrOf result denial.NotFound → T.found table.new ≡ false }
+    ensures row { IsSome (T.table table.new) → (s : State) → s.broken ≡ None → rows_in (T.table table.old) ≡ s.rows → MayDelete (config_of config.now) s key.now now result }
+{
+    let Some(repo) = find_repo(&config.repos, &key.repo) else {
+        return Err(Denial::UnknownRepo);
+    };
+    if bars_delete(repo) {
+        return Err(Denial::WriteDenied {
+            policy: Policy::ReadOnly,
+        });
+    }
+    match table.get(key) {
+        Ok(Some(asset)) => Ok(asset),
+        Ok(None) => Err(Denial::NotFound),
+        Err(refusal) => Err(Denial::Failed(keeper_fault(refusal))),
+    }
+}
+
+/// A deletion that stands ready: the mark of the blob, and the change that takes the row away.
+#[derive(Drop)]
+struct Staged<S: Drop> {
+    mark: Mark<S>,
+    change: Change,
+}
+
+/// Puts a blob into the trash.
+fn discard(alloc: Global, own: &mut Own, blob: &BlobRef, key: &Key, at: u64) -> Result<(), NoMemory>
+    ensures ok { OnOk result (own.new ≡ record own.old { trash = map.insert own.old.trash blob.now (record { at = at; key = key.now }) }) }
+    ensures err { OnErr result (own.new ≡ own.old) }
+{
+    let of_key = key.try_clone(alloc)?;
+    let blob = blob.try_clone(alloc)?;
+    own.trash.insert(blob, Deletion { at, key: of_key })
+}
+
+/// Makes everything ready by which the row of a key goes, and puts its blob into the trash. Nothing that can be seen is changed.
+fn stage<D: Disk>(
+    alloc: Global,
+    disk: &mut D,
+    own: &mut Own,
+    key: &Key,
+    asset: &Asset,
+    at: u64,
+) -> Result<Staged<D::Sealed>, Denial>
+    requires time { at < 2 ^ 48 }
+    ensures mark { D.told → IfOk result (λ staged. IsMarkOf D.Writer.content (D.tree disk.old) asset.now.blob (codes "Deleted by request") at staged.mark) }
+    ensures change { IfOk result (λ staged. staged.change ≡ change.Remove key.now) }
+    ensures trash { OnOk result (own.new ≡ record own.old { trash = discarded own.old.trash key.now asset.now at }) }
+    ensures tree { D.told → Same (D.tree disk.old) (D.tree disk.new) }
+    ensures any_moment { D.told → During D.clock D.lists disk.old disk.new (Same (D.lists disk.old (D.clock disk.old))) }
+    ensures denied { IfErr result (NotStaged D.told (D.tree disk.old) asset.now) }
+    ensures clean { OnErr result (own.new ≡ own.old) }
+    ensures cause { HasCauseWhere (DeniedBy IsDisk) (D.faults disk.old) (D.faults disk.new) result }
+{
+    let Ok(of_key) = key.try_clone(alloc) else {
+        return Err(Denial::Failed(Fault::Memory));
+    };
+    let mark = match stage_mark(alloc, disk, &asset.blob, REASON, at) {
+        Ok(Some(mark)) => mark,
+        Ok(None) => {
+            return Err(Denial::Damaged {
+                size: asset.size,
+                found: None,
+            });
+        }
+        Err(refusal) => return Err(Denial::Failed(disk_fault(refusal))),
+    };
+    if discard(alloc, own, &asset.blob, key, at).is_err() {
+        disk.discard(mark.file);
+        return Err(Denial::Failed(Fault::Memory));
+    }
+    Ok(Staged {
+        mark,
+        change: Change::Remove(of_key),
+    })
+}
+
+/// Shows the mark, and then takes the row away.
+fn show<D: Disk, T: Keeper>(
+    disk: &mut D,
+    table: &mut T,
+    mark: Mark<D::Sealed>,
+    change: &Change,
+) -> Result<(), Fault>
+    requires { IsTrue (change_in_range change.now) }
+    ensures named { D.told → OnOk result (D.tree disk.new (props_at mark.files.place) ≡ Some (D.Writer.content mark.file)) }
+    ensures rest { D.told → Rest (props_at mark.files.place) (D.tree disk.old) (D.tree disk.new) }
+    ensures settled { D.told → OnOk result (D.lists disk.new (D.clock disk.new) (props_at mark.files.place) ≡ Some (D.Writer.content mark.file) ∷ []) }
+    ensures any_moment { D.told → During D.clock D.lists disk.old disk.new (MayPut (props_at mark.files.place) (Some (D.Writer.content mark.file)) (D.lists disk.old (D.clock disk.old))) }
+    ensures rows { Tells (T.table table.old) (T.table table.new) (λ s t. OnOk result (t ≡ changed s change.now)) }
+    ensures found { T.found table.new ≡ T.found table.old }
+    ensures disk_cause { HasCauseWhere IsDisk (D.faults disk.old) (D.faults disk.new) result }
+    ensures keeper_cause { HasCauseWhere IsKeeper (T.faults table.old) (T.faults table.new) result }
+{
+    if let Err(refusal) = place(disk, mark.file, &mark.files) {
+        return Err(disk_fault(refusal));
+    }
+    match table.apply(change) {
+        Ok(()) => Ok(()),
+        Err(refusal) => Err(keeper_fault(refusal)),
+    }
+}
+
+/// The row of a key goes, and its blob is marked.
+pub(crate) fn give_up_row<D: Disk, T: Keeper>(
+    alloc: Global,
+    disk: &mut D,
+    table: &mut T,
+    config: &PlainConfig,
+    own: &mut Own,
+    key: &Key,
+    now: u64,
+) -> Result<(), Stop>
+    // What it comes to is what the step says.
+    ensures ends { D.told → IsSome (T.table table.new) → (s : State) → Agrees (config_of config.now) (D.tree disk.old) (rows_in (T.table table.old)) own.old s
+        → Ends (config_of config.now) s (call.Delete key.now now) (λ _. reply.Gone) (Agrees (config_of config.now) (D.tree disk.new) (rows_in (T.table table.new)) own.new) result }
+    // At every moment each image has the contents before or after.
+    ensures crash { D.told → IsSome (T.table table.new) → (s : State) → Agrees (config_of config.now) (D.tree disk.old) (rows_in (T.table table.old)) own.old s
+        → IsDurable D.tree D.clock D.lists disk.old
+        → During D.clock D.lists disk.old disk.new (EachImage (BeforeOrAfter (config_of config.now) s (call.Delete key.now now))) }
+    ensures durable { D.told → is_broke result ≡ false → IsDurable D.tree D.clock D.lists disk.old → IsDurable D.tree D.clock D.lists disk.new }
+    // A denial leaves the files, the rows and what the core keeps.
+    ensures clean_files { D.told → is_denied result ≡ true → Same (D.tree disk.old) (D.tree disk.new) }
+    ensures clean_moments { D.told → is_denied result ≡ true → During D.clock D.lists disk.old disk.new (Same (D.lists disk.old (D.clock disk.old))) }
+    ensures clean_own { is_denied result ≡ true → own.new ≡ own.old }
+    ensures clean_rows { Tells (T.table table.old) (T.table table.new) (λ s t. is_denied result ≡ true → t ≡ s) }
+    ensures not_found { IsErrOf result (stop.Denied denial.NotFound) → T.found table.new ≡ false }
+    ensures disk_cause { HasCauseWhere (StoppedBy IsDisk) (D.faults disk.old) (D.faults disk.new) result }
+    ensures keeper_cause { HasCauseWhere (StoppedBy IsKeeper) (T.faults table.old) (T.faults table.new) result }
+{
+    let asset = match row_to_delete(table, config, key, now) {
+        Ok(asset) => asset,
+        Err(why) => return Err(Stop::Denied(why)),
+    };
+    let staged = match stage(alloc, disk, own, key, &asset, time(now)) {
+        Ok(staged) => staged,
+        Err(why) => return Err(Stop::Denied(why)),
+    };
+    match show(disk, table, staged.mark, &staged.change) {
+        Ok(()) => Ok(()),
+        Err(fault) => Err(Stop::Broke(fault)),
+    }
+}

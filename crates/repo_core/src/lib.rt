@@ -1,0 +1,36 @@
+//! The repository over a disk and a keeper of rows: the files of blobs on one side, a table of rows on the other, and one
+//! history of what was asked and answered.
+//!
+//! - A [`Core`] owns both devices, the journal, and what it keeps itself: the blobs that are deleted, the last stamp, and
+//!   who reads which blob ([`Own`], [`Hold`]).
+//! - A core *stands for* a state of the one-thread repository (crate `repo_model`) where files, rows and its own parts are
+//!   what the state says (`Tracks` in `specs/Standing.antt`, `FilesAgree` in `specs/Agree.antt`).
+//! - A call has a *work* and an *end*. The work is refused before anything can be seen ([`Denial`]), or it is done, or a
+//!   fault stops it from the first visible step on (`Stop`). The end makes of it the answer, one entry of the journal, and,
+//!   after such a fault, the cause by which each later call is refused: then the core is broken until its folder is opened
+//!   again.
+//!
+//! What is promised of each call: it has just one entry, with its caller, arguments and answer, unless the journal is full;
+//! from each state that the core stands for, the entry leads to one that the core then stands for; at every moment of it each
+//! image that a crash may leave has the contents before or after; a disk on which everything is settled is settled again,
+//! unless the core broke; a refusal that doesn't break it leaves files, rows and its own parts; and a fault is answered only
+//! where the count of that device rose.
+#![tactic(auto)]
+
+mod delete;
+mod deleting;
+mod denial;
+mod end;
+mod entries;
+mod hold;
+mod marking;
+mod own;
+mod repository;
+mod rules;
+mod stop;
+
+pub use denial::Denial;
+pub use hold::Hold;
+pub use own::Own;
+pub use repository::Core;
+pub use stop::Stop;

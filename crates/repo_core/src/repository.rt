@@ -1,0 +1,47 @@
+use crate::hold::Hold;
+use crate::own::Own;
+use asset_keeper::Keeper;
+use disk_model::Disk;
+use repo_model::plain::PlainConfig;
+use repo_model::{Cause, Journal};
+use std::alloc::Global;
+use std::marker::Model;
+
+/// The repository over a disk and a keeper of rows.
+pub struct Core<D: Disk, T: Keeper> {
+    pub(crate) alloc: Global,
+    pub(crate) disk: D,
+    pub(crate) table: T,
+    pub(crate) config: PlainConfig,
+    pub(crate) journal: Journal,
+    pub(crate) own: Own,
+    pub(crate) holds: Vec<Option<Hold>>,
+    pub(crate) broken: Option<Cause>,
+}
+
+impl<D: Disk, T: Keeper> Model for Core<D, T> {
+    ghost use Rattle.std.specs.Coded.{codes, coded_ℕ, coded_list};
+    ghost use Rattle.std.specs.FinMap as map;
+    ghost use Rattle.nx_base.specs.Codes.{coded_key};
+    ghost use Rattle.nx_base.specs.Order.{key_cmp, name_cmp, age_cmp};
+    ghost use Rattle.repo_model.specs.Spots.{coded_blob};
+    ghost use Rattle.repo_model.specs.declared.deletion.Deletion.{Deletion};
+    ghost use Rattle.repo_core.specs.View.{CoreView};
+
+    ghost Value = { CoreView D T };
+
+    ghost coded = { Prim.hlevel (codes, D.code, T.code, map.code {X = Deletion} {R = age_cmp} coded_blob (Prim.hlevel codes), map.code {R = key_cmp} coded_key coded_ℕ, map.code {R = name_cmp} (coded_list coded_ℕ) coded_ℕ) };
+
+    ghost view = { λ c. record { disk = c.disk; table = c.table; config = c.config; journal = c.journal; own = c.own; holds = c.holds.items; broken = c.broken } };
+}
+
+impl<D: Disk, T: Keeper> Core<D, T> {
+    ghost use Rattle.std.specs.Prelude.{◌≡◌};
+
+    /// What broke the repository, if it is broken.
+    pub fn broken(&self) -> Option<Cause>
+        ensures { result ≡ self.now.broken }
+    {
+        self.broken
+    }
+}
