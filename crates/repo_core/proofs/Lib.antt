@@ -2,10 +2,15 @@ pub mod Maps
 pub mod Readings
 pub mod Samenesses
 pub mod Markings
+pub mod Creatings
 pub mod Steps
 pub mod Runs
+pub mod Rises
 pub mod Reasons
 pub mod Looks
 pub mod Tables
+pub mod Puttings
+pub mod Replacings
+pub mod Endings
 pub mod Givings
 pub mod Finishings

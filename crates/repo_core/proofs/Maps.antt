@@ -10,7 +10,7 @@ use Rattle.nx_base.specs.declared.key.Key.{Key}
 use Rattle.nx_base.specs.declared.blob_ref.BlobRef.{BlobRef}
 use Rattle.nx_base.proofs.Orders.{key_cmp_total, age_cmp_total, exact_keys, exact_blobs}
 
-equal : (o : Ordering) → is_eq o ≡ true → o ≡ Equal
+pub equal : (o : Ordering) → is_eq o ≡ true → o ≡ Equal
 equal Less e = cc
 equal Equal e = refl
 equal Greater e = cc

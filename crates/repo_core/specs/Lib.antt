@@ -7,3 +7,4 @@ pub mod Answers
 pub mod Standing
 pub mod Ends
 pub mod Marks
+pub mod Puts

@@ -1,5 +1,4 @@
 ghost use Rattle.std.specs.Prelude.{◌≡◌, ◌<◌, ◌^◌, ◌∷◌, [], true, false, codes, IfOk, IfErr, OnOk, OnErr, IsErrOf, IsSome, IsTrue, Some};
-ghost use Rattle.std.specs.FinMap as map;
 ghost use Rattle.nx_io.specs.Causes.{HasCauseWhere};
 ghost use Rattle.disk_model.specs.Disk.{Same, Rest};
 ghost use Rattle.disk_model.specs.Moments.{During, MayPut, EachImage};
@@ -30,9 +29,9 @@ use crate::rules::bars_delete;
 use crate::stop::Stop;
 use asset_keeper::{Change, Keeper};
 use disk_model::Disk;
-use nx_base::{Asset, BlobRef, Key, NoMemory, Policy};
+use nx_base::{Asset, Key, Policy};
+use repo_model::Fault;
 use repo_model::plain::{PlainConfig, find_repo, time};
-use repo_model::{Deletion, Fault};
 use soft_delete::place;
 use std::alloc::Global;
 
@@ -74,16 +73,6 @@ struct Staged<S: Drop> {
     change: Change,
 }
 
-/// Puts a blob into the trash.
-fn discard(alloc: Global, own: &mut Own, blob: &BlobRef, key: &Key, at: u64) -> Result<(), NoMemory>
-    ensures ok { OnOk result (own.new ≡ record own.old { trash = map.insert own.old.trash blob.now (record { at = at; key = key.now }) }) }
-    ensures err { OnErr result (own.new ≡ own.old) }
-{
-    let of_key = key.try_clone(alloc)?;
-    let blob = blob.try_clone(alloc)?;
-    own.trash.insert(blob, Deletion { at, key: of_key })
-}
-
 /// Makes everything ready by which the row of a key goes, and puts its blob into the trash. Nothing that can be seen is changed.
 fn stage<D: Disk>(
     alloc: Global,
@@ -116,7 +105,7 @@ fn stage<D: Disk>(
         }
         Err(refusal) => return Err(Denial::Failed(disk_fault(refusal))),
     };
-    if discard(alloc, own, &asset.blob, key, at).is_err() {
+    if own.discard(alloc, &asset.blob, key, at).is_err() {
         disk.discard(mark.file);
         return Err(Denial::Failed(Fault::Memory));
     }

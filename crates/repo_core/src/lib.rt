@@ -17,6 +17,8 @@
 //! where the count of that device rose.
 #![tactic(auto)]
 
+mod admitting;
+mod content;
 mod delete;
 mod deleting;
 mod denial;
@@ -25,8 +27,10 @@ mod entries;
 mod hold;
 mod marking;
 mod own;
+mod putting;
 mod repository;
 mod rules;
+mod staging;
 mod stop;
 
 pub use denial::Denial;

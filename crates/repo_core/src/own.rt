@@ -1,6 +1,7 @@
-ghost use Rattle.std.specs.Prelude.{◌≡◌};
+ghost use Rattle.std.specs.Prelude.{◌≡◌, OnOk, OnErr};
 ghost use Rattle.std.specs.FinMap as map;
 
+use nx_base::{BlobRef, Key, NoMemory};
 use repo_model::Deletion;
 use repo_model::plain::{BlobMap, Counts, KeyMap};
 use std::alloc::Global;
@@ -29,5 +30,21 @@ impl Own {
             last: 0,
             counts: Counts::new(alloc),
         }
+    }
+
+    /// Puts a blob into the trash, which was deleted at that time in milliseconds.
+    pub(crate) fn discard(
+        &mut self,
+        alloc: Global,
+        blob: &BlobRef,
+        key: &Key,
+        at: u64,
+    ) -> Result<(), NoMemory>
+        ensures ok { OnOk result (self.new ≡ record self.old { trash = map.insert self.old.trash blob.now (record { at = at; key = key.now }) }) }
+        ensures err { OnErr result (self.new ≡ self.old) }
+    {
+        let key = key.try_clone(alloc)?;
+        let blob = blob.try_clone(alloc)?;
+        self.trash.insert(blob, Deletion { at, key })
     }
 }

@@ -1,0 +1,28 @@
+use Rattle.std.proofs.Common.{rules, ◌≡◌, ◌⊎◌, inl, inr, ⊎_elim, ℕ, List, Option, Some, None, Result, Ok, Err, refl, sym, ◌∙◌, ap, subst}
+use Rattle.repo_model.specs.Plain.{config_of}
+use Rattle.repo_core.specs.declared.denial.Denial.TheVariants as denial
+use Rattle.std.specs.Option.{option_copied}
+use Rattle.nx_base.specs.declared.asset.Asset.{Asset}
+use Rattle.repo_core.specs.Puts.{IsNext, MayReplace}
+use Rattle.repo_core.proofs.Puttings.{may_not_replace, no_next, prepared}
+use Rattle.repo_core.proofs.putting.prepare.Goals as goal
+
+pub returns-in-Err-clause-ready : goal.returns-in-Err-clause-ready
+returns-in-Err-clause-ready g c = λ told some may s a.
+    may_not_replace (config_of c.args.config.now) s c.args.store.now c.args.upload.now c.args.moment.now a.sound may c.in-Err.why (c.in-Err.ensures.row some s a.rows_are may.repo may.declared)
+
+pub returns-in-Err-next_blob-clause-ready : goal.returns-in-Err-next_blob-clause-ready
+returns-in-Err-next_blob-clause-ready g c = λ told some may s a.
+    let row = c.in-Ok.ensures.row some s a.rows_are may.repo may.declared in
+    let next : IsNext c.args.store.now c.args.own.now.last c.args.moment.now (Err c.in-Err-next_blob.why) = c.in-Err-next_blob.ensures in
+    no_next (config_of c.args.config.now) s c.args.store.now c.args.upload.now c.args.moment.now a.sound may c.in-Err-next_blob.why row.1
+    (subst (λ (n : ℕ). IsNext c.args.store.now n c.args.moment.now (Err c.in-Err-next_blob.why)) a.last_are next)
+
+pub returns-clause-ready : goal.returns-clause-ready
+returns-clause-ready g c = λ told some may s a.
+    let old = option_copied c.as_ref.result in
+    let was : MayReplace may.repo s c.args.upload.now.key (Ok c.in-Ok.old) = c.in-Ok.ensures.row some s a.rows_are may.repo may.declared in
+    let row = subst (λ (o : Option Asset). MayReplace may.repo s c.args.upload.now.key (Ok o)) (sym c.as_ref.ensures.value) was in
+    prepared g.D.Writer.Writer.content (config_of c.args.config.now) (g.D.Disk.tree c.args.disk.now) s c.args.store.now c.args.upload.now c.args.moment.now c.args.own.now c.stage_put.new.own
+    g.D.Disk.told told old c.in-Ok-next_blob.blob c.args.own.now.last c.time-at.result a.files a.sound may a.last_are c.time-at.ensures row c.in-Ok-next_blob.ensures c.stage_put.ensures.named
+    c.stage_put.result c.stage_put.ensures.new (c.stage_put.ensures.free told) (c.stage_put.ensures.mark told) c.stage_put.ensures.trash c.stage_put.ensures.denied

@@ -1,0 +1,249 @@
+use Rattle.std.proofs.Common.{rules, ◌≡◌, ◌≤◌, ◌<◌, inl, inr, ℕ, List, [], codes, Option, Some, None, OnOk, Result, Ok, Err, refl, sym, ◌∙◌, ap, subst, arith, true≢false}
+use Rattle.std.specs.FinMap as map
+use Rattle.nx_base.specs.Order.{key_cmp}
+use Rattle.nx_base.specs.declared.asset.Asset.{Asset}
+use Rattle.disk_model.specs.Disk.{Same}
+use Rattle.disk_model.specs.Moments.{MayPut}
+use Rattle.disk_model.proofs.Images.{settled_same, settled_put}
+use Rattle.asset_keeper.specs.Table.{Table, changed}
+use Rattle.asset_keeper.specs.Told.{Tells}
+use Rattle.asset_keeper.specs.declared.change.Change.{Change}
+use Rattle.asset_keeper.specs.declared.change.Change.TheVariants as change
+use Rattle.repo_model.specs.declared.reply.Reply.TheVariants as reply
+use Rattle.repo_model.specs.Plain.{config_of}
+use Rattle.repo_model.specs.Stamps.{time_of, next_stamp}
+use Rattle.repo_model.specs.Storing.{with_asset, new_asset}
+use Rattle.tree_content.specs.Blobs.{bytes_at, props_at}
+use Rattle.tree_content.specs.Files.{Creates}
+use Rattle.repo_core.specs.Rows.{rows_in}
+use Rattle.repo_core.specs.Puts.{put_call, IsPrepared}
+use Rattle.repo_core.proofs.Tables.{rows_same, rows_changed, still_told, tells_then}
+use Rattle.repo_core.proofs.Runs.{at_end, still_same}
+use Rattle.repo_core.proofs.Rises.{stopped_by_disk, not_by_keeper}
+use Rattle.repo_core.proofs.Givings.{crash_same, agrees_same}
+use Rattle.repo_core.proofs.Replacings.{settled_created}
+use Rattle.repo_core.proofs.Endings.{new_one, crash_one, crash_two, put_first, put_again}
+use Rattle.repo_core.proofs.putting.put_content.Goals as goal
+
+pub returns-in-Err-clause-ends : goal.returns-in-Err-clause-ends
+returns-in-Err-clause-ends g c = λ told some may are s a.
+    let config = config_of c.args.config.now in
+    let tree = g.D.Disk.tree in
+    let before = g.T.Keeper.table c.args.table.now in
+    let after = g.T.Keeper.table c.prepare.new.table in (
+      c.in-Err.ensures.ready told some may s a,
+      agrees_same config (tree c.args.disk.now) (tree c.discard.new.self) (rows_in before) (rows_in after) c.args.own.now c.prepare.new.own s
+          (λ n out. c.discard.ensures.tree told n out ∙ c.prepare.ensures.tree told n out) (rows_same before after some c.prepare.ensures.rows) c.in-Err.ensures.clean a,
+    )
+
+pub returns-in-Err-clause-crash : goal.returns-in-Err-clause-crash
+returns-in-Err-clause-crash g c = λ told some may are s a settled.
+    let clock = g.D.Disk.clock in
+    let lists = g.D.Disk.lists in
+    crash_same (config_of c.args.config.now) (g.D.Disk.tree c.args.disk.now) s a.files clock lists c.args.disk.now c.discard.new.self (put_call c.args.upload.now c.args.moment.now) settled
+    (still_same clock lists c.args.disk.now c.prepare.new.disk c.discard.new.self (c.prepare.ensures.any_moment told) (c.discard.ensures.time told) (c.discard.ensures.crash told))
+
+pub returns-in-Err-clause-durable : goal.returns-in-Err-clause-durable
+returns-in-Err-clause-durable g c = λ told unbroken settled.
+    let clock = g.D.Disk.clock in
+    let lists = g.D.Disk.lists in
+    let tree = g.D.Disk.tree in
+    let d0 = c.args.disk.now in
+    let d1 = c.prepare.new.disk in
+    let d2 = c.discard.new.self in
+    let run = still_same clock lists d0 d1 d2 (c.prepare.ensures.any_moment told) (c.discard.ensures.time told) (c.discard.ensures.crash told) in
+    settled_same (tree d0) (tree d2) (lists d0 (clock d0)) (lists d2 (clock d2)) settled
+    (λ n out. c.discard.ensures.tree told n out ∙ c.prepare.ensures.tree told n out) (at_end clock lists d0 d2 (Same (lists d0 (clock d0))) run)
+
+pub returns-in-Err-clause-clean_moments : goal.returns-in-Err-clause-clean_moments
+returns-in-Err-clause-clean_moments g c = λ told denied.
+    still_same g.D.Disk.clock g.D.Disk.lists c.args.disk.now c.prepare.new.disk c.discard.new.self (c.prepare.ensures.any_moment told) (c.discard.ensures.time told) (c.discard.ensures.crash told)
+
+pub returns-in-Err-show_new-clause-crash : goal.returns-in-Err-show_new-clause-crash
+returns-in-Err-show_new-clause-crash g c = λ told some may are s a settled.
+    let config = config_of c.args.config.now in
+    let tree = g.D.Disk.tree in
+    let table = g.T.Keeper.table in
+    let staged = c.in-Ok.staged in
+    let content = g.D.Writer.Writer.content in
+    let rows0 = rows_in (table c.args.table.now) in
+    let here = still_told (λ t u. OnOk {T = Unit {0}} (Err c.in-Err-show_new.fault) (u ≡ changed t c.in-Ok.staged.new.change)) (table c.prepare.new.table) (table c.show_new.new.table) some c.in-Err-show_new.ensures.rows in
+    let p : IsPrepared g.D.Writer.Writer.content config (tree c.args.disk.now) s c.args.store.now c.args.upload.now c.args.moment.now c.args.own.now c.prepare.new.own staged =
+    c.in-Ok.ensures.ready told here may s a in
+    crash_one content config (tree c.args.disk.now) s c.args.store.now c.args.upload.now c.args.moment.now c.args.own.now c.prepare.new.own staged rows0 a may p (content c.args.file) are
+    g.D.Disk.clock g.D.Disk.lists c.args.disk.now c.prepare.new.disk c.show_new.new.disk (tree c.prepare.new.disk) (c.prepare.ensures.tree told) settled (c.prepare.ensures.any_moment told) (c.show_new.ensures.any_moment told)
+
+pub returns-in_default-mark-clause-ends : goal.returns-in_default-mark-clause-ends
+returns-in_default-mark-clause-ends g c = λ told some may are s a.
+    let config = config_of c.args.config.now in
+    let tree = g.D.Disk.tree in
+    let table = g.T.Keeper.table in
+    let staged = c.in-Ok.staged in
+    let content = g.D.Writer.Writer.content in
+    let rows0 = rows_in (table c.args.table.now) in
+    let here = still_told (λ t u. u ≡ changed t c.in-Ok.staged.new.change) (table c.prepare.new.table) (table c.show_new.new.table) some c.in_default.ensures.rows in
+    let p : IsPrepared g.D.Writer.Writer.content config (tree c.args.disk.now) s c.args.store.now c.args.upload.now c.args.moment.now c.args.own.now c.prepare.new.own staged =
+    c.in-Ok.ensures.ready told here may s a in
+    let asset = new_one content config (tree c.args.disk.now) s c.args.store.now c.args.upload.now c.args.moment.now c.args.own.now c.prepare.new.own staged rows0 a may p (content c.args.file) are in
+    let setting = change.Set (record { key = c.args.upload.now.key; asset = asset }) in
+    let told_rows = subst (λ (ch : Change). Tells (table c.prepare.new.table) (table c.show_new.new.table) (λ t u. u ≡ changed t ch)) p.new.change_is c.in_default.ensures.rows in
+    let rows_now : rows_in (table c.show_new.new.table) ≡ map.insert rows0 c.args.upload.now.key asset =
+    rows_changed (table c.prepare.new.table) (table c.show_new.new.table) setting some told_rows (λ (r : map.FinMap key_cmp Asset). map.insert r c.args.upload.now.key asset) (λ t. refl)
+    ∙ ap (λ (r : map.FinMap key_cmp Asset). map.insert r c.args.upload.now.key asset) (rows_same (table c.args.table.now) (table c.prepare.new.table) here c.prepare.ensures.rows) in
+    put_first content config (tree c.args.disk.now) s c.args.store.now c.args.upload.now c.args.moment.now c.args.own.now c.prepare.new.own staged rows0 a may p (content c.args.file) are
+    (tree c.prepare.new.disk) (tree c.show_new.new.disk) (c.prepare.ensures.tree told) (c.in_default.ensures.bytes told) (c.in_default.ensures.props told) (c.show_new.ensures.rest told) (rows_in (table c.show_new.new.table)) rows_now c.in_default-mark.is
+
+pub returns-in_default-mark-clause-crash : goal.returns-in_default-mark-clause-crash
+returns-in_default-mark-clause-crash g c = λ told some may are s a settled.
+    let config = config_of c.args.config.now in
+    let tree = g.D.Disk.tree in
+    let table = g.T.Keeper.table in
+    let staged = c.in-Ok.staged in
+    let content = g.D.Writer.Writer.content in
+    let rows0 = rows_in (table c.args.table.now) in
+    let here = still_told (λ t u. u ≡ changed t c.in-Ok.staged.new.change) (table c.prepare.new.table) (table c.show_new.new.table) some c.in_default.ensures.rows in
+    let p : IsPrepared g.D.Writer.Writer.content config (tree c.args.disk.now) s c.args.store.now c.args.upload.now c.args.moment.now c.args.own.now c.prepare.new.own staged =
+    c.in-Ok.ensures.ready told here may s a in
+    crash_one content config (tree c.args.disk.now) s c.args.store.now c.args.upload.now c.args.moment.now c.args.own.now c.prepare.new.own staged rows0 a may p (content c.args.file) are
+    g.D.Disk.clock g.D.Disk.lists c.args.disk.now c.prepare.new.disk c.show_new.new.disk (tree c.prepare.new.disk) (c.prepare.ensures.tree told) settled (c.prepare.ensures.any_moment told) (c.show_new.ensures.any_moment told)
+
+pub returns-in_default-mark-clause-durable : goal.returns-in_default-mark-clause-durable
+returns-in_default-mark-clause-durable g c = λ told unbroken settled.
+    let clock = g.D.Disk.clock in
+    let lists = g.D.Disk.lists in
+    let tree = g.D.Disk.tree in
+    let d0 = c.args.disk.now in
+    let d1 = c.prepare.new.disk in
+    let d2 = c.show_new.new.disk in
+    let new = c.in-Ok.staged.new in
+    let bytes = g.D.Writer.Writer.content c.args.file in
+    let same = at_end clock lists d0 d1 (Same (lists d0 (clock d0))) (c.prepare.ensures.any_moment told) in
+    let made = at_end clock lists d1 d2 (Creates new.files.place bytes new.text.items (lists d1 (clock d1))) (c.show_new.ensures.any_moment told) in
+    settled_created new.files.place bytes new.text.items (tree d0) (tree d2) (lists d0 (clock d0)) (lists d2 (clock d2)) settled
+    (λ n out not_bytes not_props. c.show_new.ensures.rest told n out not_bytes not_props ∙ c.prepare.ensures.tree told n out)
+    (λ n out not_bytes not_props. made.others n out not_bytes not_props ∙ same n out)
+    (c.in_default.ensures.bytes told) (c.in_default.ensures.bytes_settled told) (c.in_default.ensures.props told) (c.in_default.ensures.props_settled told)
+
+pub returns-in-Ok-place-clause-ends : goal.returns-in-Ok-place-clause-ends
+returns-in-Ok-place-clause-ends g c = λ told some may are s a.
+    let config = config_of c.args.config.now in
+    let tree = g.D.Disk.tree in
+    let table = g.T.Keeper.table in
+    let staged = c.in-Ok.staged in
+    let content = g.D.Writer.Writer.content in
+    let rows0 = rows_in (table c.args.table.now) in
+    let here = still_told (λ t u. u ≡ changed t c.in-Ok.staged.new.change) (table c.prepare.new.table) (table c.show_new.new.table) some c.in_default.ensures.rows in
+    let p : IsPrepared g.D.Writer.Writer.content config (tree c.args.disk.now) s c.args.store.now c.args.upload.now c.args.moment.now c.args.own.now c.prepare.new.own staged =
+    c.in-Ok.ensures.ready told here may s a in
+    let asset = new_one content config (tree c.args.disk.now) s c.args.store.now c.args.upload.now c.args.moment.now c.args.own.now c.prepare.new.own staged rows0 a may p (content c.args.file) are in
+    let setting = change.Set (record { key = c.args.upload.now.key; asset = asset }) in
+    let told_rows = subst (λ (ch : Change). Tells (table c.prepare.new.table) (table c.show_new.new.table) (λ t u. u ≡ changed t ch)) p.new.change_is c.in_default.ensures.rows in
+    let rows_now : rows_in (table c.show_new.new.table) ≡ map.insert rows0 c.args.upload.now.key asset =
+    rows_changed (table c.prepare.new.table) (table c.show_new.new.table) setting some told_rows (λ (r : map.FinMap key_cmp Asset). map.insert r c.args.upload.now.key asset) (λ t. refl)
+    ∙ ap (λ (r : map.FinMap key_cmp Asset). map.insert r c.args.upload.now.key asset) (rows_same (table c.args.table.now) (table c.prepare.new.table) here c.prepare.ensures.rows) in
+    put_again content config (tree c.args.disk.now) s c.args.store.now c.args.upload.now c.args.moment.now c.args.own.now c.prepare.new.own staged rows0 a may p (content c.args.file) are
+    (tree c.prepare.new.disk) (tree c.show_new.new.disk) (c.prepare.ensures.tree told) (c.in_default.ensures.bytes told) (c.in_default.ensures.props told) (c.show_new.ensures.rest told)
+    c.in-Some.mark c.in-Some.is (tree c.place.new.disk) (rows_in (table c.show_new.new.table)) rows_now (c.in-Ok-place.ensures.named told) (c.place.ensures.rest told)
+
+pub returns-in-Ok-place-clause-crash : goal.returns-in-Ok-place-clause-crash
+returns-in-Ok-place-clause-crash g c = λ told some may are s a settled.
+    let config = config_of c.args.config.now in
+    let tree = g.D.Disk.tree in
+    let table = g.T.Keeper.table in
+    let staged = c.in-Ok.staged in
+    let content = g.D.Writer.Writer.content in
+    let rows0 = rows_in (table c.args.table.now) in
+    let here = still_told (λ t u. u ≡ changed t c.in-Ok.staged.new.change) (table c.prepare.new.table) (table c.show_new.new.table) some c.in_default.ensures.rows in
+    let p : IsPrepared g.D.Writer.Writer.content config (tree c.args.disk.now) s c.args.store.now c.args.upload.now c.args.moment.now c.args.own.now c.prepare.new.own staged =
+    c.in-Ok.ensures.ready told here may s a in
+    let clock = g.D.Disk.clock in
+    let lists = g.D.Disk.lists in
+    let d0 = c.args.disk.now in
+    let d1 = c.prepare.new.disk in
+    let d2 = c.show_new.new.disk in
+    let bytes = g.D.Writer.Writer.content c.args.file in
+    let new = c.in-Ok.staged.new in
+    let same = at_end clock lists d0 d1 (Same (lists d0 (clock d0))) (c.prepare.ensures.any_moment told) in
+    let made = at_end clock lists d1 d2 (Creates new.files.place bytes new.text.items (lists d1 (clock d1))) (c.show_new.ensures.any_moment told) in
+    let mid = settled_created new.files.place bytes new.text.items (tree d0) (tree d2) (lists d0 (clock d0)) (lists d2 (clock d2)) settled
+    (λ n out not_bytes not_props. c.show_new.ensures.rest told n out not_bytes not_props ∙ c.prepare.ensures.tree told n out)
+    (λ n out not_bytes not_props. made.others n out not_bytes not_props ∙ same n out)
+    (c.in_default.ensures.bytes told) (c.in_default.ensures.bytes_settled told) (c.in_default.ensures.props told) (c.in_default.ensures.props_settled told) in
+    let first = crash_one content config (tree c.args.disk.now) s c.args.store.now c.args.upload.now c.args.moment.now c.args.own.now c.prepare.new.own staged rows0 a may p (content c.args.file) are
+    clock lists d0 d1 d2 (tree d1) (c.prepare.ensures.tree told) settled (c.prepare.ensures.any_moment told) (c.show_new.ensures.any_moment told) in
+    crash_two content config (tree c.args.disk.now) s c.args.store.now c.args.upload.now c.args.moment.now c.args.own.now c.prepare.new.own staged rows0 a may p (content c.args.file) are
+    (tree c.prepare.new.disk) (tree c.show_new.new.disk) (c.prepare.ensures.tree told) (c.in_default.ensures.bytes told) (c.in_default.ensures.props told) (c.show_new.ensures.rest told)
+    c.in-Some.mark c.in-Some.is clock lists d0 d2 c.place.new.disk mid first (c.place.ensures.any_moment told)
+
+pub returns-in-Ok-place-clause-durable : goal.returns-in-Ok-place-clause-durable
+returns-in-Ok-place-clause-durable g c = λ told unbroken settled.
+    let tree = g.D.Disk.tree in
+    let clock = g.D.Disk.clock in
+    let lists = g.D.Disk.lists in
+    let d0 = c.args.disk.now in
+    let d1 = c.prepare.new.disk in
+    let d2 = c.show_new.new.disk in
+    let bytes = g.D.Writer.Writer.content c.args.file in
+    let new = c.in-Ok.staged.new in
+    let same = at_end clock lists d0 d1 (Same (lists d0 (clock d0))) (c.prepare.ensures.any_moment told) in
+    let made = at_end clock lists d1 d2 (Creates new.files.place bytes new.text.items (lists d1 (clock d1))) (c.show_new.ensures.any_moment told) in
+    let mid = settled_created new.files.place bytes new.text.items (tree d0) (tree d2) (lists d0 (clock d0)) (lists d2 (clock d2)) settled
+    (λ n out not_bytes not_props. c.show_new.ensures.rest told n out not_bytes not_props ∙ c.prepare.ensures.tree told n out)
+    (λ n out not_bytes not_props. made.others n out not_bytes not_props ∙ same n out)
+    (c.in_default.ensures.bytes told) (c.in_default.ensures.bytes_settled told) (c.in_default.ensures.props told) (c.in_default.ensures.props_settled told) in
+    let d3 = c.place.new.disk in
+    let mark = c.in-Some.mark in
+    let name = props_at mark.files.place in
+    let value = Some (g.D.Writer.Writer.content mark.file) in
+    let put = at_end clock lists d2 d3 (MayPut name value (lists d2 (clock d2))) (c.place.ensures.any_moment told) in
+    settled_put name value (tree d2) (tree d3) (lists d2 (clock d2)) (lists d3 (clock d3)) mid (c.place.ensures.rest told) put.rest (c.in-Ok-place.ensures.named told) (c.in-Ok-place.ensures.settled told)
+
+pub returns-in-Ok-place-clause-clean_rows : goal.returns-in-Ok-place-clause-clean_rows
+returns-in-Ok-place-clause-clean_rows g c =
+    tells_then _ _ _ (g.T.Keeper.table c.args.table.now) (g.T.Keeper.table c.prepare.new.table) (g.T.Keeper.table c.show_new.new.table)
+    (λ s t u first second denied. absurd (true≢false (sym denied))) c.prepare.ensures.rows c.in_default.ensures.rows
+
+pub returns-in-Err-place-clause-crash : goal.returns-in-Err-place-clause-crash
+returns-in-Err-place-clause-crash g c = λ told some may are s a settled.
+    let config = config_of c.args.config.now in
+    let tree = g.D.Disk.tree in
+    let table = g.T.Keeper.table in
+    let staged = c.in-Ok.staged in
+    let content = g.D.Writer.Writer.content in
+    let rows0 = rows_in (table c.args.table.now) in
+    let here = still_told (λ t u. u ≡ changed t c.in-Ok.staged.new.change) (table c.prepare.new.table) (table c.show_new.new.table) some c.in_default.ensures.rows in
+    let p : IsPrepared g.D.Writer.Writer.content config (tree c.args.disk.now) s c.args.store.now c.args.upload.now c.args.moment.now c.args.own.now c.prepare.new.own staged =
+    c.in-Ok.ensures.ready told here may s a in
+    let clock = g.D.Disk.clock in
+    let lists = g.D.Disk.lists in
+    let d0 = c.args.disk.now in
+    let d1 = c.prepare.new.disk in
+    let d2 = c.show_new.new.disk in
+    let bytes = g.D.Writer.Writer.content c.args.file in
+    let new = c.in-Ok.staged.new in
+    let same = at_end clock lists d0 d1 (Same (lists d0 (clock d0))) (c.prepare.ensures.any_moment told) in
+    let made = at_end clock lists d1 d2 (Creates new.files.place bytes new.text.items (lists d1 (clock d1))) (c.show_new.ensures.any_moment told) in
+    let mid = settled_created new.files.place bytes new.text.items (tree d0) (tree d2) (lists d0 (clock d0)) (lists d2 (clock d2)) settled
+    (λ n out not_bytes not_props. c.show_new.ensures.rest told n out not_bytes not_props ∙ c.prepare.ensures.tree told n out)
+    (λ n out not_bytes not_props. made.others n out not_bytes not_props ∙ same n out)
+    (c.in_default.ensures.bytes told) (c.in_default.ensures.bytes_settled told) (c.in_default.ensures.props told) (c.in_default.ensures.props_settled told) in
+    let first = crash_one content config (tree c.args.disk.now) s c.args.store.now c.args.upload.now c.args.moment.now c.args.own.now c.prepare.new.own staged rows0 a may p (content c.args.file) are
+    clock lists d0 d1 d2 (tree d1) (c.prepare.ensures.tree told) settled (c.prepare.ensures.any_moment told) (c.show_new.ensures.any_moment told) in
+    crash_two content config (tree c.args.disk.now) s c.args.store.now c.args.upload.now c.args.moment.now c.args.own.now c.prepare.new.own staged rows0 a may p (content c.args.file) are
+    (tree c.prepare.new.disk) (tree c.show_new.new.disk) (c.prepare.ensures.tree told) (c.in_default.ensures.bytes told) (c.in_default.ensures.props told) (c.show_new.ensures.rest told)
+    c.in-Some.mark c.in-Some.is clock lists d0 d2 c.place.new.disk mid first (c.place.ensures.any_moment told)
+
+pub returns-in-Err-place-clause-clean_rows : goal.returns-in-Err-place-clause-clean_rows
+returns-in-Err-place-clause-clean_rows g c =
+    tells_then _ _ _ (g.T.Keeper.table c.args.table.now) (g.T.Keeper.table c.prepare.new.table) (g.T.Keeper.table c.show_new.new.table)
+    (λ s t u first second denied. absurd (true≢false (sym denied))) c.prepare.ensures.rows c.in_default.ensures.rows
+
+pub returns-in-Err-place-clause-disk_cause : goal.returns-in-Err-place-clause-disk_cause
+returns-in-Err-place-clause-disk_cause g c =
+    stopped_by_disk (g.D.Disk.faults c.args.disk.now) (g.D.Disk.faults c.show_new.new.disk) (g.D.Disk.faults c.place.new.disk) c.in-Err-place.refusal c.disk_fault.result c.disk_fault.ensures
+    (omega (arith, c.prepare.ensures.disk_cause.later, c.show_new.ensures.disk_cause.later)) c.in-Err-place.ensures.cause
+
+pub returns-in-Err-place-clause-keeper_cause : goal.returns-in-Err-place-clause-keeper_cause
+returns-in-Err-place-clause-keeper_cause g c =
+    not_by_keeper (g.T.Keeper.faults c.args.table.now) (g.T.Keeper.faults c.show_new.new.table) c.in-Err-place.refusal c.disk_fault.result c.disk_fault.ensures
+    (omega (arith, c.prepare.ensures.keeper_cause.later, c.show_new.ensures.keeper_cause.later))

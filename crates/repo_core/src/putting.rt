@@ -1,0 +1,158 @@
+//! The work of putting a content.
+ghost use Rattle.std.specs.Prelude.{◌≡◌, ◌<◌, ◌^◌, ◌∷◌, [], ℕ, List, true, false, IsTrue, IsSome, IfOk, OnOk, OnErr, Err, Some};
+ghost use Rattle.nx_io.specs.Causes.{HasCauseWhere};
+ghost use Rattle.nx_base.specs.declared.policy.Policy.TheVariants.{NoRedeploy};
+ghost use Rattle.repo_model.specs.State.{State};
+ghost use Rattle.repo_model.specs.Plain.{config_of};
+ghost use Rattle.disk_model.specs.Disk.{Same};
+ghost use Rattle.disk_model.specs.Moments.{During, EachImage};
+ghost use Rattle.repo_core.specs.declared.denial.Denial.TheVariants as denial;
+ghost use Rattle.repo_core.specs.Rows.{rows_in};
+ghost use Rattle.repo_core.specs.Agree.{Agrees};
+ghost use Rattle.repo_core.specs.Puts.{MayGo, AreBytes, Prepares, put_call};
+ghost use Rattle.asset_keeper.specs.Table.{changed};
+ghost use Rattle.asset_keeper.specs.Told.{Tells};
+ghost use Rattle.asset_keeper.specs.Ranges.{change_in_range};
+ghost use Rattle.tree_content.specs.Blobs.{bytes_at, props_at};
+ghost use Rattle.tree_content.specs.Files.{RestOfPlace, Creates};
+ghost use Rattle.repo_core.specs.Faults.{IsDisk, IsKeeper, DeniedBy, StoppedBy};
+ghost use Rattle.repo_core.specs.Answers.{is_denied, is_broke};
+ghost use Rattle.repo_core.specs.Standing.{IsDurable, BeforeOrAfter};
+ghost use Rattle.repo_core.specs.Ends.{Ends};
+ghost use Rattle.repo_core.specs.declared.stop.Stop.TheVariants as stop;
+ghost use Rattle.repo_model.specs.declared.reply.Reply.TheVariants as reply;
+
+use crate::admitting::{next_blob, row_to_replace};
+use crate::denial::{Denial, disk_fault, keeper_fault};
+use crate::own::Own;
+use crate::staging::{NewBlob, Staged, stage_put};
+use crate::stop::Stop;
+use asset_keeper::Keeper;
+use blob_files::create;
+use disk_model::Disk;
+use nx_base::{Asset, Moment, StoreName};
+use repo_model::plain::{PlainConfig, time};
+use repo_model::{Fault, Upload};
+use soft_delete::place;
+use std::alloc::Global;
+
+/// Shows the files of a new blob, and then sets its row.
+fn show_new<D: Disk, T: Keeper>(
+    disk: &mut D,
+    table: &mut T,
+    file: D::Sealed,
+    new: &NewBlob,
+) -> Result<(), Fault>
+    requires { IsTrue (change_in_range new.now.change) }
+    ensures bytes { D.told → OnOk result (D.tree disk.new (bytes_at new.now.files.place) ≡ Some (D.Writer.content file)) }
+    ensures props { D.told → OnOk result (D.tree disk.new (props_at new.now.files.place) ≡ Some new.now.text.items) }
+    ensures rest { D.told → RestOfPlace new.now.files.place (D.tree disk.old) (D.tree disk.new) }
+    ensures bytes_settled { D.told → OnOk result (D.lists disk.new (D.clock disk.new) (bytes_at new.now.files.place) ≡ Some (D.Writer.content file) ∷ []) }
+    ensures props_settled { D.told → OnOk result (D.lists disk.new (D.clock disk.new) (props_at new.now.files.place) ≡ Some new.now.text.items ∷ []) }
+    ensures any_moment { D.told → During D.clock D.lists disk.old disk.new (Creates new.now.files.place (D.Writer.content file) new.now.text.items (D.lists disk.old (D.clock disk.old))) }
+    ensures rows { Tells (T.table table.old) (T.table table.new) (λ s t. OnOk result (t ≡ changed s new.now.change)) }
+    ensures found { T.found table.new ≡ T.found table.old }
+    ensures disk_cause { HasCauseWhere IsDisk (D.faults disk.old) (D.faults disk.new) result }
+    ensures keeper_cause { HasCauseWhere IsKeeper (T.faults table.old) (T.faults table.new) result }
+{
+    if let Err(refusal) = create(disk, file, &new.files, &new.text) {
+        return Err(disk_fault(refusal));
+    }
+    match table.apply(&new.change) {
+        Ok(()) => Ok(()),
+        Err(refusal) => Err(keeper_fault(refusal)),
+    }
+}
+
+/// Makes everything ready by which an upload becomes the content of its key. Nothing that can be seen is changed.
+fn prepare<D: Disk, T: Keeper>(
+    alloc: Global,
+    disk: &mut D,
+    table: &mut T,
+    config: &PlainConfig,
+    own: &mut Own,
+    upload: &Upload,
+    store: &StoreName,
+    moment: &Moment,
+) -> Result<Staged<D::Sealed>, Denial>
+    requires size { upload.now.size < 2 ^ 63 }
+    ensures ready { D.told → IsSome (T.table table.new) → MayGo (config_of config.now) upload.now store.now
+        → (s : State) → Agrees (config_of config.now) (D.tree disk.old) (rows_in (T.table table.old)) own.old s
+        → Prepares D.Writer.content (config_of config.now) (D.tree disk.old) s store.now upload.now moment.entry.now own.old own.new result }
+    ensures range { IfOk result (λ staged. IsTrue (change_in_range staged.new.change)) }
+    ensures store { IfOk result (λ staged. staged.new.asset.blob.store ≡ store.now) }
+    ensures rows { Tells (T.table table.old) (T.table table.new) (λ s t. t ≡ s) }
+    ensures clean { OnErr result (own.new ≡ own.old) }
+    ensures tree { D.told → Same (D.tree disk.old) (D.tree disk.new) }
+    ensures any_moment { D.told → During D.clock D.lists disk.old disk.new (Same (D.lists disk.old (D.clock disk.old))) }
+    ensures disk_cause { HasCauseWhere (DeniedBy IsDisk) (D.faults disk.old) (D.faults disk.new) result }
+    ensures keeper_cause { HasCauseWhere (DeniedBy IsKeeper) (T.faults table.old) (T.faults table.new) result }
+    ensures no_redeploy { result ≡ Err (denial.WriteDenied NoRedeploy) → T.found table.new ≡ true }
+    ensures taken { (id : List ℕ) → result ≡ Err (denial.IdTaken id) → IsSome (D.last_look disk.new) }
+{
+    let old = match row_to_replace(table, config, &upload.key) {
+        Ok(old) => old,
+        Err(why) => return Err(why),
+    };
+    let blob = match next_blob(alloc, store, own.last, moment) {
+        Ok(blob) => blob,
+        Err(why) => return Err(why),
+    };
+    let at = time(moment.now);
+    stage_put(alloc, disk, own, upload, old.as_ref(), &blob, at)
+}
+
+/// A sealed file becomes the content of a key: its blob is made, its row set, and the blob that the key had marked.
+pub(crate) fn put_content<D: Disk, T: Keeper>(
+    alloc: Global,
+    disk: &mut D,
+    table: &mut T,
+    config: &PlainConfig,
+    own: &mut Own,
+    file: D::Sealed,
+    upload: &Upload,
+    store: &StoreName,
+    moment: &Moment,
+) -> Result<Asset, Stop>
+    requires size { upload.now.size < 2 ^ 63 }
+    // What it comes to is what the step says.
+    ensures ends { D.told → IsSome (T.table table.new) → MayGo (config_of config.now) upload.now store.now → AreBytes upload.now (D.Writer.content file)
+        → (s : State) → Agrees (config_of config.now) (D.tree disk.old) (rows_in (T.table table.old)) own.old s
+        → Ends (config_of config.now) s (put_call upload.now moment.entry.now) (λ asset. reply.Stored asset) (Agrees (config_of config.now) (D.tree disk.new) (rows_in (T.table table.new)) own.new) result }
+    // At every moment each image has the contents before or after.
+    ensures crash { D.told → IsSome (T.table table.new) → MayGo (config_of config.now) upload.now store.now → AreBytes upload.now (D.Writer.content file)
+        → (s : State) → Agrees (config_of config.now) (D.tree disk.old) (rows_in (T.table table.old)) own.old s → IsDurable D.tree D.clock D.lists disk.old
+        → During D.clock D.lists disk.old disk.new (EachImage (BeforeOrAfter (config_of config.now) s (put_call upload.now moment.entry.now))) }
+    ensures durable { D.told → is_broke result ≡ false → IsDurable D.tree D.clock D.lists disk.old → IsDurable D.tree D.clock D.lists disk.new }
+    // A denial leaves the files, the rows and what the core keeps.
+    ensures clean_files { D.told → is_denied result ≡ true → Same (D.tree disk.old) (D.tree disk.new) }
+    ensures clean_moments { D.told → is_denied result ≡ true → During D.clock D.lists disk.old disk.new (Same (D.lists disk.old (D.clock disk.old))) }
+    ensures clean_own { is_denied result ≡ true → own.new ≡ own.old }
+    ensures clean_rows { Tells (T.table table.old) (T.table table.new) (λ s t. is_denied result ≡ true → t ≡ s) }
+    ensures store { IfOk result (λ asset. asset.blob.store ≡ store.now) }
+    ensures no_redeploy { result ≡ Err (stop.Denied (denial.WriteDenied NoRedeploy)) → T.found table.new ≡ true }
+    ensures taken { (id : List ℕ) → result ≡ Err (stop.Denied (denial.IdTaken id)) → IsSome (D.last_look disk.new) }
+    ensures disk_cause { HasCauseWhere (StoppedBy IsDisk) (D.faults disk.old) (D.faults disk.new) result }
+    ensures keeper_cause { HasCauseWhere (StoppedBy IsKeeper) (T.faults table.old) (T.faults table.new) result }
+{
+    let Staged { new, mark } = match prepare(
+        alloc, disk, table, config, own, upload, store, moment,
+    ) {
+        Ok(staged) => staged,
+        Err(why) => {
+            disk.discard(file);
+            return Err(Stop::Denied(why));
+        }
+    };
+    own.last = new.asset.blob.stamp;
+    if let Err(fault) = show_new(disk, table, file, &new) {
+        return Err(Stop::Broke(fault));
+    }
+    let Some(mark) = mark else {
+        return Ok(new.asset);
+    };
+    match place(disk, mark.file, &mark.files) {
+        Ok(()) => Ok(new.asset),
+        Err(refusal) => Err(Stop::Broke(disk_fault(refusal))),
+    }
+}
