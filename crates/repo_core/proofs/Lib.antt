@@ -14,3 +14,4 @@ pub mod Replacings
 pub mod Endings
 pub mod Givings
 pub mod Finishings
+pub mod Answering

@@ -31,6 +31,9 @@ use Rattle.tree_content.specs.Blobs.{IsRef, props_name}
 use Rattle.repo_core.specs.declared.marking.Mark.{Mark}
 use Rattle.repo_core.specs.declared.staging.NewBlob.{NewBlob}
 use Rattle.repo_core.specs.declared.staging.Staged.{Staged}
+use Rattle.repo_core.specs.declared.putting.Kept.{Kept}
+use Rattle.repo_model.specs.declared.reply.Refusal.{Refusal}
+use Rattle.blob_files.specs.declared.ready.Ready.{Ready}
 use Rattle.repo_core.specs.declared.denial.Denial.{Denial}
 use Rattle.repo_core.specs.declared.denial.Denial.TheVariants as denial
 use Rattle.repo_core.specs.declared.own.Own.{Own}
@@ -115,3 +118,12 @@ pub record IsPrepared {S : Type 0} (content : S → List ℕ) (config : Config) 
 abbrev pub Prepares : {S : Type 0} → (S → List ℕ) → Config → Tree → State → List ℕ → Upload → Moment → Own → Own → Result (Staged S) Denial → Type 0
 Prepares content config tree s store upload moment own kept (Ok staged) = IsPrepared content config tree s store upload moment own kept staged
 Prepares content config tree s store upload moment own kept (Err why) = Denies config s (put_call upload moment) why
+
+-- the asset that a put answers
+abbrev pub asset_of : Result Kept Refusal → Result Asset Refusal
+asset_of (Ok kept) = Ok kept.asset
+asset_of (Err why) = Err why
+
+-- the upload that is ready
+abbrev pub upload_of : {S : Type 0} → Ready S → Upload
+upload_of ready = record { key = ready.begin.key; content_type = ready.begin.content_type; size = ready.size; sha1 = ready.sha1 }

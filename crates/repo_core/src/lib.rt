@@ -27,6 +27,7 @@ mod entries;
 mod hold;
 mod marking;
 mod own;
+mod put;
 mod putting;
 mod repository;
 mod rules;

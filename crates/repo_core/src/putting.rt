@@ -36,6 +36,13 @@ use repo_model::{Fault, Upload};
 use soft_delete::place;
 use std::alloc::Global;
 
+/// The asset that a key has got, twice.
+#[derive(Drop)]
+pub(crate) struct Kept {
+    pub(crate) asset: Asset,
+    pub(crate) copy: Asset,
+}
+
 /// Shows the files of a new blob, and then sets its row.
 fn show_new<D: Disk, T: Keeper>(
     disk: &mut D,
@@ -80,6 +87,7 @@ fn prepare<D: Disk, T: Keeper>(
         → (s : State) → Agrees (config_of config.now) (D.tree disk.old) (rows_in (T.table table.old)) own.old s
         → Prepares D.Writer.content (config_of config.now) (D.tree disk.old) s store.now upload.now moment.entry.now own.old own.new result }
     ensures range { IfOk result (λ staged. IsTrue (change_in_range staged.new.change)) }
+    ensures copy { IfOk result (λ staged. staged.new.copy ≡ staged.new.asset) }
     ensures store { IfOk result (λ staged. staged.new.asset.blob.store ≡ store.now) }
     ensures rows { Tells (T.table table.old) (T.table table.new) (λ s t. t ≡ s) }
     ensures clean { OnErr result (own.new ≡ own.old) }
@@ -113,12 +121,12 @@ pub(crate) fn put_content<D: Disk, T: Keeper>(
     upload: &Upload,
     store: &StoreName,
     moment: &Moment,
-) -> Result<Asset, Stop>
+) -> Result<Kept, Stop>
     requires size { upload.now.size < 2 ^ 63 }
     // What it comes to is what the step says.
     ensures ends { D.told → IsSome (T.table table.new) → MayGo (config_of config.now) upload.now store.now → AreBytes upload.now (D.Writer.content file)
         → (s : State) → Agrees (config_of config.now) (D.tree disk.old) (rows_in (T.table table.old)) own.old s
-        → Ends (config_of config.now) s (put_call upload.now moment.entry.now) (λ asset. reply.Stored asset) (Agrees (config_of config.now) (D.tree disk.new) (rows_in (T.table table.new)) own.new) result }
+        → Ends (config_of config.now) s (put_call upload.now moment.entry.now) (λ kept. reply.Stored kept.asset) (Agrees (config_of config.now) (D.tree disk.new) (rows_in (T.table table.new)) own.new) result }
     // At every moment each image has the contents before or after.
     ensures crash { D.told → IsSome (T.table table.new) → MayGo (config_of config.now) upload.now store.now → AreBytes upload.now (D.Writer.content file)
         → (s : State) → Agrees (config_of config.now) (D.tree disk.old) (rows_in (T.table table.old)) own.old s → IsDurable D.tree D.clock D.lists disk.old
@@ -129,7 +137,8 @@ pub(crate) fn put_content<D: Disk, T: Keeper>(
     ensures clean_moments { D.told → is_denied result ≡ true → During D.clock D.lists disk.old disk.new (Same (D.lists disk.old (D.clock disk.old))) }
     ensures clean_own { is_denied result ≡ true → own.new ≡ own.old }
     ensures clean_rows { Tells (T.table table.old) (T.table table.new) (λ s t. is_denied result ≡ true → t ≡ s) }
-    ensures store { IfOk result (λ asset. asset.blob.store ≡ store.now) }
+    ensures copy { IfOk result (λ kept. kept.copy ≡ kept.asset) }
+    ensures store { IfOk result (λ kept. kept.asset.blob.store ≡ store.now) }
     ensures no_redeploy { result ≡ Err (stop.Denied (denial.WriteDenied NoRedeploy)) → T.found table.new ≡ true }
     ensures taken { (id : List ℕ) → result ≡ Err (stop.Denied (denial.IdTaken id)) → IsSome (D.last_look disk.new) }
     ensures disk_cause { HasCauseWhere (StoppedBy IsDisk) (D.faults disk.old) (D.faults disk.new) result }
@@ -148,11 +157,15 @@ pub(crate) fn put_content<D: Disk, T: Keeper>(
     if let Err(fault) = show_new(disk, table, file, &new) {
         return Err(Stop::Broke(fault));
     }
+    let kept = Kept {
+        asset: new.asset,
+        copy: new.copy,
+    };
     let Some(mark) = mark else {
-        return Ok(new.asset);
+        return Ok(kept);
     };
     match place(disk, mark.file, &mark.files) {
-        Ok(()) => Ok(new.asset),
+        Ok(()) => Ok(kept),
         Err(refusal) => Err(Stop::Broke(disk_fault(refusal))),
     }
 }

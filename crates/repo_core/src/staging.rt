@@ -31,6 +31,8 @@ pub(crate) struct NewBlob {
     pub(crate) files: BlobFiles,
     pub(crate) text: Vec<u8>,
     pub(crate) asset: Asset,
+    /// The same again, for the journal.
+    pub(crate) copy: Asset,
     pub(crate) change: Change,
 }
 
@@ -55,11 +57,13 @@ pub(crate) fn new_blob(alloc: Global, upload: &Upload, blob: &BlobRef) -> Result
     requires stamp { blob.now.stamp < 2 ^ 48 }
     ensures made { IfOk result (IsNewBlob upload.now blob.now) }
     ensures range { IfOk result (λ new. IsTrue (change_in_range new.change)) }
+    ensures copy { IfOk result (λ new. new.copy ≡ new.asset) }
 {
     see_ref(blob);
     let files = BlobFiles::of(alloc, blob, Layout::Volume)?;
     let text = new_text(alloc, upload, blob.stamp)?;
     let asset = new_asset(alloc, upload, blob)?;
+    let copy = asset.try_clone(alloc)?;
     let row = Row {
         key: upload.key.try_clone(alloc)?,
         asset: asset.try_clone(alloc)?,
@@ -68,6 +72,7 @@ pub(crate) fn new_blob(alloc: Global, upload: &Upload, blob: &BlobRef) -> Result
         files,
         text,
         asset,
+        copy,
         change: Change::Set(row),
     })
 }
@@ -166,6 +171,7 @@ pub(crate) fn stage_put<D: Disk>(
     ensures named { IsRef blob.now }
     ensures new { IfOk result (λ staged. IsNewBlob upload.now blob.now staged.new) }
     ensures range { IfOk result (λ staged. IsTrue (change_in_range staged.new.change)) }
+    ensures copy { IfOk result (λ staged. staged.new.copy ≡ staged.new.asset) }
     ensures free { D.told → OnOk result (D.tree disk.old (props_name blob.now) ≡ None) }
     ensures mark { D.told → IfOk result (λ staged. StagesOld D.Writer.content (D.tree disk.old) at (option_copied old.entry) staged.mark) }
     ensures trash { IfOk result (λ staged. own.new ≡ with_old own.old upload.now.key at (option_copied old.entry) staged.mark) }

@@ -203,8 +203,8 @@ returns-in-Ok-place-clause-clean_rows g c =
     tells_then _ _ _ (g.T.Keeper.table c.args.table.now) (g.T.Keeper.table c.prepare.new.table) (g.T.Keeper.table c.show_new.new.table)
     (λ s t u first second denied. absurd (true≢false (sym denied))) c.prepare.ensures.rows c.in_default.ensures.rows
 
-pub returns-in-Err-place-clause-crash : goal.returns-in-Err-place-clause-crash
-returns-in-Err-place-clause-crash g c = λ told some may are s a settled.
+pub returns-clause-crash : goal.returns-clause-crash
+returns-clause-crash g c = λ told some may are s a settled.
     let config = config_of c.args.config.now in
     let tree = g.D.Disk.tree in
     let table = g.T.Keeper.table in
@@ -233,17 +233,17 @@ returns-in-Err-place-clause-crash g c = λ told some may are s a settled.
     (tree c.prepare.new.disk) (tree c.show_new.new.disk) (c.prepare.ensures.tree told) (c.in_default.ensures.bytes told) (c.in_default.ensures.props told) (c.show_new.ensures.rest told)
     c.in-Some.mark c.in-Some.is clock lists d0 d2 c.place.new.disk mid first (c.place.ensures.any_moment told)
 
-pub returns-in-Err-place-clause-clean_rows : goal.returns-in-Err-place-clause-clean_rows
-returns-in-Err-place-clause-clean_rows g c =
+pub returns-clause-clean_rows : goal.returns-clause-clean_rows
+returns-clause-clean_rows g c =
     tells_then _ _ _ (g.T.Keeper.table c.args.table.now) (g.T.Keeper.table c.prepare.new.table) (g.T.Keeper.table c.show_new.new.table)
     (λ s t u first second denied. absurd (true≢false (sym denied))) c.prepare.ensures.rows c.in_default.ensures.rows
 
-pub returns-in-Err-place-clause-disk_cause : goal.returns-in-Err-place-clause-disk_cause
-returns-in-Err-place-clause-disk_cause g c =
+pub returns-clause-disk_cause : goal.returns-clause-disk_cause
+returns-clause-disk_cause g c =
     stopped_by_disk (g.D.Disk.faults c.args.disk.now) (g.D.Disk.faults c.show_new.new.disk) (g.D.Disk.faults c.place.new.disk) c.in-Err-place.refusal c.disk_fault.result c.disk_fault.ensures
     (omega (arith, c.prepare.ensures.disk_cause.later, c.show_new.ensures.disk_cause.later)) c.in-Err-place.ensures.cause
 
-pub returns-in-Err-place-clause-keeper_cause : goal.returns-in-Err-place-clause-keeper_cause
-returns-in-Err-place-clause-keeper_cause g c =
+pub returns-clause-keeper_cause : goal.returns-clause-keeper_cause
+returns-clause-keeper_cause g c =
     not_by_keeper (g.T.Keeper.faults c.args.table.now) (g.T.Keeper.faults c.show_new.new.table) c.in-Err-place.refusal c.disk_fault.result c.disk_fault.ensures
     (omega (arith, c.prepare.ensures.keeper_cause.later, c.show_new.ensures.keeper_cause.later))
