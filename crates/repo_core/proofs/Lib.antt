@@ -9,3 +9,4 @@ pub mod Looks
 pub mod Tables
 pub mod Givings
 pub mod Finishings
+pub mod Beginnings

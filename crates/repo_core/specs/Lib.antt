@@ -7,3 +7,5 @@ pub mod Answers
 pub mod Standing
 pub mod Ends
 pub mod Marks
+pub mod Hosted
+pub mod Fresh

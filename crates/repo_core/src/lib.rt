@@ -17,11 +17,13 @@
 //! where the count of that device rose.
 #![tactic(auto)]
 
+mod closing;
 mod delete;
 mod deleting;
 mod denial;
 mod end;
 mod entries;
+mod fresh;
 mod hold;
 mod marking;
 mod own;
@@ -29,7 +31,9 @@ mod repository;
 mod rules;
 mod stop;
 
+pub use closing::Closed;
 pub use denial::Denial;
+pub use fresh::NotOpen;
 pub use hold::Hold;
 pub use own::Own;
 pub use repository::Core;
