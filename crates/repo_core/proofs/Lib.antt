@@ -10,3 +10,6 @@ pub mod Tables
 pub mod Givings
 pub mod Finishings
 pub mod Beginnings
+pub mod Lookings
+pub mod Serving
+pub mod Tellings

@@ -9,3 +9,5 @@ pub mod Ends
 pub mod Marks
 pub mod Hosted
 pub mod Fresh
+pub mod Got
+pub mod Looking
