@@ -22,6 +22,8 @@ mod delete;
 mod deleting;
 mod denial;
 mod end;
+mod end_get;
+mod end_upload;
 mod entries;
 mod fresh;
 mod get;
