@@ -15,3 +15,7 @@ pub mod Endings
 pub mod Givings
 pub mod Finishings
 pub mod Answering
+pub mod Beginnings
+pub mod Lookings
+pub mod Serving
+pub mod Tellings

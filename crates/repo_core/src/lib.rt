@@ -19,13 +19,22 @@
 
 mod admitting;
 mod content;
+mod closing;
 mod delete;
 mod deleting;
 mod denial;
 mod end;
+mod end_get;
+mod end_upload;
 mod entries;
+mod fresh;
+mod get;
+mod getting;
+mod given;
 mod hold;
 mod marking;
+mod measuring;
+mod noting;
 mod own;
 mod put;
 mod putting;
@@ -33,8 +42,12 @@ mod repository;
 mod rules;
 mod staging;
 mod stop;
+mod telling;
 
+pub use closing::Closed;
 pub use denial::Denial;
+pub use fresh::NotOpen;
+pub use get::Got;
 pub use hold::Hold;
 pub use own::Own;
 pub use repository::Core;

@@ -26,6 +26,8 @@ impl<D: Disk, T: Keeper> Model for Core<D, T> {
     ghost use Rattle.nx_base.specs.Order.{key_cmp, name_cmp, age_cmp};
     ghost use Rattle.repo_model.specs.Spots.{coded_blob};
     ghost use Rattle.repo_model.specs.declared.deletion.Deletion.{Deletion};
+    ghost use Rattle.repo_model.specs.Plain.{config_of};
+    ghost use Rattle.repo_core.specs.Hosted.{AllHosted};
     ghost use Rattle.repo_core.specs.View.{CoreView};
 
     ghost Value = { CoreView D T };
@@ -33,6 +35,8 @@ impl<D: Disk, T: Keeper> Model for Core<D, T> {
     ghost coded = { Prim.hlevel (codes, D.code, T.code, map.code {X = Deletion} {R = age_cmp} coded_blob (Prim.hlevel codes), map.code {R = key_cmp} coded_key coded_ℕ, map.code {R = name_cmp} (coded_list coded_ℕ) coded_ℕ) };
 
     ghost view = { λ c. record { disk = c.disk; table = c.table; config = c.config; journal = c.journal; own = c.own; holds = c.holds.items; broken = c.broken } };
+
+    ghost invariant = { λ c. AllHosted (config_of c.config) };
 }
 
 impl<D: Disk, T: Keeper> Core<D, T> {
@@ -43,5 +47,12 @@ impl<D: Disk, T: Keeper> Core<D, T> {
         ensures { result ≡ self.now.broken }
     {
         self.broken
+    }
+
+    /// The entries of the calls so far.
+    pub fn journal(&self) -> &Journal
+        ensures { result.now ≡ self.now.journal }
+    {
+        &self.journal
     }
 }
