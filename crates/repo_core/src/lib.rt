@@ -18,8 +18,8 @@
 #![tactic(auto)]
 
 mod admitting;
-mod content;
 mod closing;
+mod content;
 mod delete;
 mod deleting;
 mod denial;

@@ -85,3 +85,10 @@ returns-clause-clean_rows g c = rw (← c.self.view_is)
 
 pub returns-clause-taken : goal.returns-clause-taken
 returns-clause-taken g c = λ id said. c.put_content-done.ensures.taken id (if_taken c.put_content-done.result c.answer_of.result c.stored-reply.result.1 id c.stored-reply.ensures.answer c.answer_of.ensures said)
+
+pub returns-in-Some-clause-broken_files : goal.returns-in-Some-clause-broken_files
+returns-in-Some-clause-broken_files g c = rw (← c.self.view_is) (λ told some.
+    let disk = c.self.inside.disk in
+    let clock = g.D.Disk.clock in
+    let lists = g.D.Disk.lists in
+    still_same clock lists disk disk c.discard-in-Some.new.self (nothing_ran clock lists disk) (c.discard-in-Some.ensures.time told) (c.discard-in-Some.ensures.crash told))
