@@ -1,31 +1,32 @@
 -- The ends of a session.
-use Rattle.std.proofs.Common.{◌≡◌, ℕ, suc, ◌+◌, ◌<◌, ◌≤◌, Bool, true, false, List, [], ◌∷◌, ◌++◌, length, take, Result, Ok, Err, refl, sym, ap, ◌∙◌, subst, arith, append_assoc, append-nil, length-append}
+use Rattle.std.proofs.Common.{◌≡◌, ℕ, suc, ◌+◌, ◌<◌, ◌≤◌, Bool, true, false, List, [], ◌∷◌, ◌++◌, length, take, Result, Ok, Err, refl, sym, ap, ◌∙◌, subst, arith, inl, append_assoc, append-nil, length-append}
 use Rattle.std.proofs.lemmas.List.{take-append-le}
 use Rattle.std.specs.declared.option.Option.{Option}
 use Rattle.std.specs.Io.KnownBytes.{Consumes, Appends, IsAtEnd}
 use Rattle.std.proofs.KnownBytes.{Consumes-trans, Appends-nil, Appends-trans}
-use Rattle.http_wire.specs.declared.head.Head.{Head}
-use Rattle.http_wire.specs.declared.head_err.HeadErr.{HeadErr}
+use Rattle.http_heads.specs.declared.head_err.HeadErr.{HeadErr}
 use Rattle.http_front.specs.Buffers.{Pending, input_limit}
 use Rattle.http_front.specs.Fills.{Halts, IsWithin}
-use Rattle.http_wire.specs.Cut.{drop_blank}
-use Rattle.http_wire.specs.Requests as stream
-use Rattle.http_wire.specs.Requests.{Item, Accepts, AreRequests, IsRefused, body_len}
-use Rattle.http_front.specs.Reading.{TookHead, MetEnd, MetRefusal, IsShort}
-use Rattle.http_front.specs.Replying.{Says, IsSilent, Answered}
-use Rattle.http_front.specs.Sessions.{HasSaid, HasSaidFirst, HasSaidPart, ends_refused, EndsAs, halt_end, unsaid_end, result_end, input_end}
+use Rattle.http_heads.specs.Cut.{drop_blank}
+use Rattle.http_requests.specs.Requests as stream
+use Rattle.http_requests.specs.Requests.{Item, AreRequests}
+use Rattle.http_front.specs.Reading.{MetEnd, MetRefusal}
+use Rattle.http_front.specs.Replying.{Says, IsSilent, IsAnswered}
+use Rattle.http_front.specs.Sessions.{HasSaid, HasSaidFirst, HasSaidPart, ends_session, HasClosed, EndsAs, halt_end, unsaid_end, result_end, input_end}
 use Rattle.http_front.specs.declared.halt.Halt.{Halt}
 use Rattle.http_front.specs.declared.halt.Halt.TheVariants as halts
 use Rattle.http_front.specs.declared.replies.Unsaid.{Unsaid}
 use Rattle.http_front.specs.declared.replies.Unsaid.TheVariants as unsaid
-use Rattle.http_front.proofs.Runs.{Runs, Took, all_read, stands_first}
+use Rattle.http_requests.specs.Heads.{IsRefused}
+use Rattle.http_front.specs.Asking.{is_last}
+use Rattle.http_front.proofs.Runs.{Runs, all_read}
 
 -- what stands in the rest of the bytes, to which that is said
 wrote_all : (says next : Says) (t u v : Option (List ℕ)) (front items : List Item) (written : List ℕ) → Appends t u written → says (front ++ items) ≡ written ++ next items → Appends u v (next items)
     → Appends t v (says (front ++ items))
 wrote_all says next t u v front items written x e y = subst (Appends t v) (sym e) (Appends-trans t u v written (next items) x y)
 
-within_all : (read came : List ℕ) (total : ℕ) → length read ≡ total → total ≤ input_limit → IsWithin total came → length (read ++ came) ≤ input_limit
+pub within_all : (read came : List ℕ) (total : ℕ) → length read ≡ total → total ≤ input_limit → IsWithin total came → length (read ++ came) ≤ input_limit
 within_all read [] total e le i = omega (arith, length-append read [], e, le)
 within_all read (x ∷ came) total e le i = omega (arith, length-append read (x ∷ came), e, i (omega arith))
 
@@ -58,7 +59,7 @@ first_said Old says a b c t u v old came over items inside r x some full h w = r
 }
 
 -- a front of what is said
-front_of : (x y : List ℕ) (k : ℕ) → take (length x + k) (x ++ y) ≡ x ++ take k y
+pub front_of : (x y : List ℕ) (k : ℕ) → take (length x + k) (x ++ y) ≡ x ++ take k y
 front_of [] y k = ap (λ (n : ℕ). take n y) (omega arith)
 front_of (b ∷ x) y k = let e : length (b ∷ x) + k ≡ suc (length x + k) = omega arith in ap (λ (n : ℕ). take n (b ∷ x ++ y)) e ∙ ap (λ (l : List ℕ). b ∷ l) (front_of x y k)
 
@@ -105,78 +106,33 @@ pub input_ended : (Old : Says → Type 0) (says : Says) (a b c t u : Option (Lis
 input_ended Old says a b c t u e old true r q m = ended Old says a b c t u e old [] true r q m
 input_ended Old says a b c t u e old false r q m = ended Old says a b c t u e old [] false r q m
 
--- a refused head ends the session
-last_refused : (front : List Item) (why : HeadErr) (bare : Bool) → ends_refused (front ++ stream.refused why bare ∷ []) ≡ true
-last_refused [] why bare = refl
-last_refused (x ∷ []) why bare = refl
-last_refused (x ∷ y ∷ front) why bare = last_refused (y ∷ front) why bare
+-- the last of the requests
+pub last_of : (front : List Item) (item : Item) → ends_session (front ++ item ∷ []) ≡ is_last item
+last_of [] item = refl
+last_of (x ∷ []) item = refl
+last_of (x ∷ y ∷ front) item = last_of (y ∷ front) item
 
-pub refused : (Old : Says → Type 0) (says : Says) (a b c t u v : Option (List ℕ)) (e : Bool) (old : Pending) (why : HeadErr) (bare : Bool) (result : Result (Unit {0}) Unsaid)
-    → (r : Runs Old says a b t u old) → MetRefusal b c old why bare → Answered r.next IsSilent (stream.refused why bare) u v result
-    → EndsAs (result_end result) says a c e t v
+-- where a fault or want of memory ended the session, a front of what is said was written
+pub part_ends : (says : Says) (a c t v : Option (List ℕ)) (e : Bool) (why : Unsaid) → HasSaidPart says a c t v → EndsAs (unsaid_end why) says a c e t v
+part_ends says a c t v e unsaid.WriteFault h = h
+part_ends says a c t v e unsaid.NoMemory h = h
+
+-- all that is said was written, and the session ends after the last request
+pub all_closed : (Old : Says → Type 0) (says : Says) (a b c t u v : Option (List ℕ)) (old : Pending) (came : List ℕ) (item : Item)
+    → (r : Runs Old says a b t u old) → Consumes b c came → IsWithin old.total came → AreRequests (old.waiting ++ came) (item ∷ []) false → Appends u v (r.next (item ∷ [])) → is_last item ≡ true → HasClosed says a c t v
 unfolding all_said
+all_closed Old says a b c t u v old came item r x i h w l = inl (all_said Old says a b c t u v old came (item ∷ []) false r x i h w, last_of r.front item ∙ l)
+
+-- a refused head ends the session
+pub refused : (Old : Says → Type 0) (says : Says) (a b c t u v : Option (List ℕ)) (e : Bool) (old : Pending) (why : HeadErr) (bare : Bool) (result : Result (Unit {0}) Unsaid)
+    → (r : Runs Old says a b t u old) → MetRefusal b c old why bare → IsAnswered r.next IsSilent (stream.refused why bare) u v result
+    → EndsAs (result_end result) says a c e t v
 refused Old says a b c t u v e old why bare (Ok x) r (came, m, i, f) (answer, next, silent, tells, wrote) =
     let here : IsRefused (drop_blank (old.waiting ++ came)) why bare = subst (λ (l : List ℕ). IsRefused (drop_blank l) why bare) (append-nil (old.waiting ++ came)) (f []) in
-    let same : r.next (stream.refused why bare ∷ []) ≡ answer = tells [] ∙ ap (λ (l : List ℕ). answer ++ l) (silent []) ∙ append-nil answer in (
-      all_said Old says a b c t u v old came (stream.refused why bare ∷ []) false r m i (here, refl, refl) (subst (Appends u v) (sym same) wrote),
-      last_refused r.front why bare,
-    )
+    let same : r.next (stream.refused why bare ∷ []) ≡ answer = tells [] ∙ ap (λ (l : List ℕ). answer ++ l) (silent []) ∙ append-nil answer in
+    all_closed Old says a b c t u v old came (stream.refused why bare) r m i (here, refl, refl) (subst (Appends u v) (sym same) wrote) refl
 refused Old says a b c t u v e old why bare (Err unsaid.WriteFault) r (came, m, i, f) (answer, next, count, tells, le, wrote) =
     let here : IsRefused (drop_blank (old.waiting ++ came)) why bare = subst (λ (l : List ℕ). IsRefused (drop_blank l) why bare) (append-nil (old.waiting ++ came)) (f []) in
     part_said Old says a b c t u v old came (old.waiting ++ came) [] (stream.refused why bare ∷ []) false count r m (sym (append-nil (old.waiting ++ came))) (here, refl, refl)
     (subst (Appends u v) (sym (ap (take count) (tells []) ∙ take-append-le count answer (next []) le)) wrote)
 refused Old says a b c t u v e old why bare (Err unsaid.NoMemory) r (came, m, i, f) wrote = nothing_said Old says a b c t u v old came r m wrote
-
--- a request that came whole wasn't answered
-pub unanswered : (Old New : Says → Type 0) (says : Says) (a b c t u v : Option (List ℕ)) (e : Bool) (old new : Pending) (asked : Head) (content : List ℕ) (why : Unsaid)
-    → (r : Runs Old says a b t u old) → Took b c old new asked content → Answered r.next New (stream.whole asked content) u v (Err why) → EndsAs (unsaid_end why) says a c e t v
-unanswered Old New says a b c t u v e old new asked content unsaid.WriteFault r k (answer, next, count, tells, le, wrote) =
-    let here : AreRequests ((k.head ++ content) ++ []) (stream.whole asked content ∷ []) false = stands_first k.head content asked k.size k.accepts [] [] false refl in
-    part_said Old says a b c t u v old k.came (k.head ++ content) new.waiting (stream.whole asked content ∷ []) false count r k.consumed k.parts
-    (subst (λ (l : List ℕ). AreRequests l (stream.whole asked content ∷ []) false) (append-nil (k.head ++ content)) here)
-    (subst (Appends u v) (sym (ap (take count) (tells []) ∙ take-append-le count answer (next []) le)) wrote)
-unanswered Old New says a b c t u v e old new asked content unsaid.NoMemory r k wrote = nothing_said Old says a b c t u v old k.came r k.consumed wrote
-
--- a content that is cut
-pub cut_short : (b c : Option (List ℕ)) (old mid : Pending) (head : Head) (came : List ℕ) → (h : TookHead b c old mid head) → IsShort mid (body_len head.framing) came
-    → AreRequests (old.waiting ++ (h.moves.came ++ came)) (stream.cut head (mid.waiting ++ came) ∷ []) true
-cut_short b c old mid head came h lt =
-    let all : old.waiting ++ (h.moves.came ++ came) ≡ h.taken ++ (mid.waiting ++ came)
-    = sym (append_assoc old.waiting h.moves.came came) ∙ ap (λ (l : List ℕ). l ++ came) h.moves.parts ∙ append_assoc h.taken mid.waiting came in
-    (lt, subst (λ (l : List ℕ). Accepts (drop_blank l) head (mid.waiting ++ came)) (sym all) (h.accepts (mid.waiting ++ came)), refl, refl)
-
-within_both : (x y : List ℕ) (a b : ℕ) → b ≡ a + length x → (0 < length x → b ≤ input_limit) → IsWithin b y → IsWithin a (x ++ y)
-within_both [] y a b e f g lt = omega (arith, e, g lt)
-within_both (z ∷ x) [] a b e f g lt = omega (arith, e, length-append (z ∷ x) [], f (omega arith))
-within_both (z ∷ x) (w ∷ y) a b e f g lt = omega (arith, e, length-append (z ∷ x) (w ∷ y), g (omega arith))
-
--- the bytes that came in two parts, the second of which falls short
-pub record FallsShort (first : List ℕ) (mid : Pending) (size : ℕ) (came : List ℕ) : Type 0 where
-  pub second : List ℕ
-  pub parts : came ≡ first ++ second
-  pub short : IsShort mid size second
-
-pub halt_later : (a b c : Option (List ℕ)) (old mid : Pending) (head : Head) (size m n : ℕ) (h : Halt) → (t : TookHead a b old mid head) → Halts (IsShort mid size) b c mid.total m n h
-    → Halts (FallsShort t.moves.came mid size) a c old.total m n h
-halt_later a b c old mid head size m n halts.ReadFault t (came, x, s, i, rose) =
-    (t.moves.came ++ came, Consumes-trans a b c t.moves.came came t.moves.consumed x, record { second = came; parts = refl; short = s }, within_both t.moves.came came old.total mid.total t.moves.count t.moves.within i, rose)
-halt_later a b c old mid head size m n halts.InputTooLong t (came, over, some, x, full, s) = (
-  t.moves.came ++ came,
-  over,
-  some,
-  subst (Consumes a c) (sym (append_assoc t.moves.came came over)) (Consumes-trans a b c t.moves.came (came ++ over) t.moves.consumed x),
-  omega (arith, length-append t.moves.came came, t.moves.count, full),
-  record { second = came; parts = refl; short = s },
-)
-halt_later a b c old mid head size m n halts.NoMemory t (came, x) = (t.moves.came ++ came, Consumes-trans a b c t.moves.came came t.moves.consumed x)
-
-pub end_later : (a b c : Option (List ℕ)) (e : Bool) (old mid : Pending) (head : Head) → (t : TookHead a b old mid head) → MetEnd b c e mid.total (IsShort mid (body_len head.framing))
-    → (part : List ℕ) × (length part < body_len head.framing) × MetEnd a c e old.total (λ came. AreRequests (old.waiting ++ came) (stream.cut head part ∷ []) true)
-end_later a b c e old mid head t m =
-    (mid.waiting ++ m.came, m.stands, record { came = t.moves.came ++ m.came; consumed = Consumes-trans a b c t.moves.came m.came t.moves.consumed m.consumed; at_end = m.at_end; told = m.told; within = within_both t.moves.came m.came old.total mid.total t.moves.count t.moves.within m.within; stands = cut_short a b old mid head m.came t m.stands })
-
--- what was read so far holds a request that is cut
-pub short_items : (a b : Option (List ℕ)) (old mid : Pending) (head : Head) (came : List ℕ) → (t : TookHead a b old mid head) → FallsShort t.moves.came mid (body_len head.framing) came
-    → (part : List ℕ) × (length part < body_len head.framing) × AreRequests (old.waiting ++ came) (stream.cut head part ∷ []) true
-short_items a b old mid head came t f =
-    (mid.waiting ++ f.second, f.short, subst (λ (l : List ℕ). AreRequests (old.waiting ++ l) (stream.cut head (mid.waiting ++ f.second) ∷ []) true) (sym f.parts) (cut_short a b old mid head f.second t f.short))

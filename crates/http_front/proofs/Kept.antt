@@ -10,11 +10,11 @@ use Rattle.repo_model.specs.declared.reply.Reply.TheVariants as reply
 use Rattle.repo_model.specs.Config.{Config}
 use Rattle.repo_model.specs.State.{State}
 use Rattle.repo_model.specs.Removal.{same_blob}
-use Rattle.http_wire.specs.declared.method.Method.{Method}
-use Rattle.http_wire.specs.declared.method.Method.TheVariants as methods
-use Rattle.http_wire.specs.declared.head.Head.{Head}
-use Rattle.http_wire.specs.Requests.{Item, refused, whole, cut}
-use Rattle.http_front.specs.Asking.{is_put}
+use Rattle.http_heads.specs.declared.method.Method.{Method}
+use Rattle.http_heads.specs.declared.method.Method.TheVariants as methods
+use Rattle.http_heads.specs.declared.head.Head.{Head}
+use Rattle.http_requests.specs.Requests.{Item, refused, whole, stopped, cut}
+use Rattle.http_heads.specs.Head.{is_put}
 use Rattle.http_front.specs.Contents.{Contents, asset_content, with_content}
 use Rattle.http_front.specs.Entries.{own, others}
 use Rattle.http_front.specs.Answers.{Answer, last_reply, reply_to, put_answer, response_of}
@@ -64,7 +64,8 @@ asked_grows config d s k m a c methods.Put = began _ c _ _ k (stays k) (λ x y. 
 made_grows : (config : Config) (d : List ℕ → List ℕ) (s : State) (k : Contents) (m : Moment) (q : Item) → Grows k (made_by config d s k m q).contents
 made_grows config d s k m (refused w bare) = stays k
 made_grows config d s k m (whole a c) = asked_grows config d s k m a (Some c) a.method
-made_grows config d s k m (cut a p) = asked_grows config d s k m a None a.method
+made_grows config d s k m (stopped a c w) = asked_grows config d s k m a None a.method
+made_grows config d s k m (cut a c) = asked_grows config d s k m a None a.method
 
 after_grows : (k : Contents) (made : Made) (bytes : List ℕ) (e : Bool) (rest : Output) → Grows k made.contents → Grows k rest.contents
     → Grows k (after made (record { bytes = bytes; ends = e }) rest).contents
@@ -105,7 +106,8 @@ same_response : (q : Item) (k l : Contents) (es : List Entry) → asset_content 
 unfolding response_of
 same_response (refused w bare) k l es e = refl
 same_response (whole a c) k l es e = ap (λ (x : Answer). if is_put a.method then put_answer a es x else x) (same_reply k l a (last_reply es) e)
-same_response (cut a p) k l es e = refl
+same_response (stopped a c w) k l es e = refl
+same_response (cut a c) k l es e = refl
 
 -- one request of the fold
 

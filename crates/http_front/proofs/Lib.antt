@@ -4,6 +4,9 @@ mod Profile
 mod Blanks
 mod Heads
 mod Comes
+mod Contents
 mod Seeks
 mod Runs
 mod Ends
+mod Opened
+mod Middle

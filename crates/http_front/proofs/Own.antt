@@ -10,10 +10,10 @@ use Rattle.repo_model.specs.declared.reply.Reply.{Reply}
 use Rattle.repo_model.specs.declared.reply.Reply.TheVariants as reply
 use Rattle.repo_model.specs.Config.{Config}
 use Rattle.repo_model.specs.State.{State}
-use Rattle.http_wire.specs.declared.method.Method.{Method}
-use Rattle.http_wire.specs.declared.method.Method.TheVariants as methods
-use Rattle.http_wire.specs.declared.head.Head.{Head}
-use Rattle.http_wire.specs.Requests.{Item, refused, whole, cut}
+use Rattle.http_heads.specs.declared.method.Method.{Method}
+use Rattle.http_heads.specs.declared.method.Method.TheVariants as methods
+use Rattle.http_heads.specs.declared.head.Head.{Head}
+use Rattle.http_requests.specs.Requests.{Item, refused, whole, stopped, cut}
 use Rattle.http_front.specs.Contents.{Contents}
 use Rattle.http_front.specs.Entries.{begins, goes_on, asks_nothing, own, others}
 use Rattle.http_front.specs.Output.{Made, done_by, entry_of, begun_as, committed, asked_for, made_by}
@@ -89,4 +89,5 @@ pub splits : (config : Config) (d : List ℕ → List ℕ) (s : State) (k : Cont
     → Splits q (made_by config d s k m q).entries rest
 splits config d s k m rest (refused w bare) = none (refused w bare) rest refl
 splits config d s k m rest (whole a c) = on_whole config d s k m a c rest a.method
-splits config d s k m rest (cut a p) = on_part config d s k m a (cut a p) rest a.method refl refl
+splits config d s k m rest (stopped a c w) = on_part config d s k m a (stopped a c w) rest a.method refl refl
+splits config d s k m rest (cut a c) = on_part config d s k m a (cut a c) rest a.method refl refl

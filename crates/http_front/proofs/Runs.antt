@@ -1,15 +1,17 @@
 -- The steps of a session.
-use Rattle.std.proofs.Common.{◌≡◌, ℕ, zero, suc, ◌+◌, ◌<◌, ◌≤◌, Bool, List, [], ◌∷◌, ◌++◌, length, Ok, refl, sym, ap, ◌∙◌, subst, arith, append_assoc, length-append}
+use Rattle.std.proofs.Common.{◌≡◌, ℕ, zero, suc, ◌+◌, ◌<◌, ◌≤◌, Bool, true, false, List, [], ◌∷◌, ◌++◌, length, Ok, refl, sym, ap, ◌∙◌, subst, arith, inl, inr, append_assoc, append-nil, length-append}
 use Rattle.std.specs.declared.option.Option.{Option}
 use Rattle.std.specs.Io.KnownBytes.{Consumes, Appends}
 use Rattle.std.proofs.KnownBytes.{Consumes-nil, Consumes-trans, Appends-nil, Appends-trans}
-use Rattle.http_wire.specs.declared.head.Head.{Head}
-use Rattle.http_wire.specs.Cut.{drop_blank}
+use Rattle.http_heads.specs.declared.head.Head.{Head}
+use Rattle.http_heads.specs.Cut.{drop_blank}
 use Rattle.http_front.specs.Buffers.{Pending, input_limit}
-use Rattle.http_wire.specs.Requests as stream
-use Rattle.http_wire.specs.Requests.{Item, Accepts, AreRequests, body_len}
-use Rattle.http_front.specs.Reading.{Moves, TookHead}
-use Rattle.http_front.specs.Replying.{Says, Answered}
+use Rattle.http_requests.specs.Requests as stream
+use Rattle.http_requests.specs.Requests.{Item, Asks, AreRequests}
+use Rattle.http_requests.specs.Heads.{Accepts}
+use Rattle.http_chunks.specs.Reading as readings
+use Rattle.http_front.specs.Reading.{TookHead, TookContent}
+use Rattle.http_front.specs.Replying.{Says, IsAnswered}
 
 -- Where a session stands: the requests `front` were taken from the bytes `done`, and what is said to them was written. `Stands` holds of what is said from here on.
 pub record Runs (Stands : Says → Type 0) (says : Says) (left left' taken taken' : Option (List ℕ)) (now : Pending) : Type 0 where
@@ -51,38 +53,51 @@ all_read done w came read e = ap (λ (l : List ℕ). l ++ came) e ∙ append_ass
 -- a request that came whole: its head and its content were taken
 pub record Took (a b : Option (List ℕ)) (old new : Pending) (asked : Head) (content : List ℕ) : Type 0 where
   pub came : List ℕ
-  pub head : List ℕ
+  pub text : List ℕ
   pub consumed : Consumes a b came
-  pub parts : old.waiting ++ came ≡ (head ++ content) ++ new.waiting
+  pub parts : old.waiting ++ came ≡ text ++ new.waiting
   pub count : new.total ≡ old.total + length came
   pub within : old.total ≤ input_limit → new.total ≤ input_limit
-  pub size : length content ≡ body_len asked.framing
-  pub accepts : (rest : List ℕ) → Accepts (drop_blank (head ++ rest)) asked rest
+  pub asks : (rest : List ℕ) → Asks (drop_blank (text ++ rest)) asked (readings.whole content rest)
 
 both : (m n a b c : ℕ) → b ≡ a + m → (0 < m → b ≤ input_limit) → c ≡ b + n → (0 < n → c ≤ input_limit) → a ≤ input_limit → c ≤ input_limit
 both zero zero a b c e f g h le = omega (arith, e, g, le)
 both (suc m) zero a b c e f g h le = omega (arith, g, f (omega arith))
 both m (suc n) a b c e f g h le = h (omega arith)
 
-pub took_both : (a b c : Option (List ℕ)) (old mid new : Pending) (head : Head) (content : List ℕ) → TookHead a b old mid head → Moves b c mid new content → length content ≡ body_len head.framing
-    → Took a c old new head content
-took_both a b c old mid new head content h m e = record {
+pub took_both : (a b c : Option (List ℕ)) (old mid new : Pending) (head : Head) (content : List ℕ) → TookHead a b old mid head → TookContent b c mid new head.framing content → Took a c old new head content
+took_both a b c old mid new head content h (body, m, holds) = record {
   came = h.moves.came ++ m.came;
-  head = h.taken;
+  text = h.taken ++ body;
   consumed = Consumes-trans a b c h.moves.came m.came h.moves.consumed m.consumed;
   parts = sym (append_assoc old.waiting h.moves.came m.came) ∙ ap (λ (l : List ℕ). l ++ m.came) h.moves.parts ∙ append_assoc h.taken mid.waiting m.came
-      ∙ ap (λ (l : List ℕ). h.taken ++ l) m.parts ∙ sym (append_assoc h.taken content new.waiting);
+      ∙ ap (λ (l : List ℕ). h.taken ++ l) m.parts ∙ sym (append_assoc h.taken body new.waiting);
   count = omega (arith, h.moves.count, m.count, length-append h.moves.came m.came);
   within = λ le. both (length h.moves.came) (length m.came) old.total mid.total new.total h.moves.count h.moves.within m.count m.within le;
-  size = e;
-  accepts = h.accepts;
+  asks = λ rest. record {
+    body = body ++ rest;
+    accepts = subst (λ (l : List ℕ). Accepts (drop_blank l) head (body ++ rest)) (sym (append_assoc h.taken body rest)) (h.accepts (body ++ rest));
+    holds = holds rest;
+  };
 }
 
--- the request stands in front, whatever follows
-pub stands_first : (head content : List ℕ) (asked : Head) → length content ≡ body_len asked.framing → ((rest : List ℕ) → Accepts (drop_blank (head ++ rest)) asked rest)
-    → (more : List ℕ) (items : List Item) (inside : Bool) → AreRequests more items inside → AreRequests ((head ++ content) ++ more) (stream.whole asked content ∷ items) inside
-stands_first head content asked e f more items inside h =
-    (e, more, subst (λ (l : List ℕ). Accepts (drop_blank l) asked (content ++ more)) (sym (append_assoc head content more)) (f (content ++ more)), h)
+-- the request stands in front, whatever follows, where it doesn't close
+pub stands_first : (a b : Option (List ℕ)) (old new : Pending) (asked : Head) (content : List ℕ) → (k : Took a b old new asked content) → asked.closes ≡ false
+    → (more : List ℕ) (items : List Item) (inside : Bool) → AreRequests more items inside → AreRequests (k.text ++ more) (stream.whole asked content ∷ items) inside
+stands_first a b old new asked content k e more items inside h = (more, k.asks more, inl (e, h))
+
+-- where it closes it is the last
+pub stands_last : (a b : Option (List ℕ)) (old new : Pending) (asked : Head) (content : List ℕ) → (k : Took a b old new asked content) → asked.closes ≡ true
+    → (rest : List ℕ) → AreRequests (k.text ++ rest) (stream.whole asked content ∷ []) false
+stands_last a b old new asked content k e rest = (rest, k.asks rest, inr (e, refl, refl))
+
+-- alone it is the one request
+pub stands_alone : (a b : Option (List ℕ)) (old new : Pending) (asked : Head) (content : List ℕ) → (k : Took a b old new asked content) → AreRequests k.text (stream.whole asked content ∷ []) false
+stands_alone a b old new asked content k = subst (λ (l : List ℕ). AreRequests l (stream.whole asked content ∷ []) false) (append-nil k.text) (by_close asked.closes refl)
+  where
+    by_close : (closes : Bool) → asked.closes ≡ closes → AreRequests (k.text ++ []) (stream.whole asked content ∷ []) false
+    by_close true e = stands_last a b old new asked content k e []
+    by_close false e = stands_first a b old new asked content k e [] [] false refl
 
 -- the requests that were taken, and one more behind them
 taken_holds : (done step : List ℕ) (front : List Item) (item : Item)
@@ -93,22 +108,22 @@ taken_holds done step front item f g more items inside h =
     subst (λ (l : List ℕ). AreRequests l ((front ++ item ∷ []) ++ items) inside) (sym (append_assoc done step more))
     (subst (λ (l : List Item). AreRequests (done ++ (step ++ more)) l inside) (sym (append_assoc front (item ∷ []) items)) (f (step ++ more) (item ∷ items) inside (g more items inside h)))
 
--- the request was answered
+-- the request was answered, and the session goes on
 pub answered : (Old New : Says → Type 0) (says : Says) (a b c t u v : Option (List ℕ)) (old new : Pending) (asked : Head) (content : List ℕ)
-    → (r : Runs Old says a b t u old) → Took b c old new asked content → Answered r.next New (stream.whole asked content) u v (Ok tt) → Runs New says a c t v new
-answered Old New says a b c t u v old new asked content r k (answer, next, stands, tells, wrote) = record {
+    → (r : Runs Old says a b t u old) → Took b c old new asked content → asked.closes ≡ false → IsAnswered r.next New (stream.whole asked content) u v (Ok tt) → Runs New says a c t v new
+answered Old New says a b c t u v old new asked content r k goes (answer, next, stands, tells, wrote) = record {
   next = next;
-  done = r.done ++ (k.head ++ content);
+  done = r.done ++ k.text;
   front = r.front ++ stream.whole asked content ∷ [];
   read = r.read ++ k.came;
   written = r.written ++ answer;
   stands = stands;
   consumed = Consumes-trans a b c r.read k.came r.consumed k.consumed;
-  parts = all_read r.done old.waiting k.came r.read r.parts ∙ ap (λ (l : List ℕ). r.done ++ l) k.parts ∙ sym (append_assoc r.done (k.head ++ content) new.waiting);
+  parts = all_read r.done old.waiting k.came r.read r.parts ∙ ap (λ (l : List ℕ). r.done ++ l) k.parts ∙ sym (append_assoc r.done k.text new.waiting);
   count = omega (arith, length-append r.read k.came, r.count, k.count);
   few = k.within r.few;
   wrote = Appends-trans t u v r.written answer r.wrote wrote;
-  holds = taken_holds r.done (k.head ++ content) r.front (stream.whole asked content) r.holds (stands_first k.head content asked k.size k.accepts);
+  holds = taken_holds r.done k.text r.front (stream.whole asked content) r.holds (stands_first b c old new asked content k goes);
   said = λ items. ap says (append_assoc r.front (stream.whole asked content ∷ []) items) ∙ r.said (stream.whole asked content ∷ items)
       ∙ ap (λ (l : List ℕ). r.written ++ l) (tells items) ∙ sym (append_assoc r.written answer (next items));
 }

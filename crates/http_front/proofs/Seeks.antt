@@ -2,10 +2,10 @@
 use Rattle.std.proofs.Common.{◌≡◌, ℕ, suc, zero, ◌<◌, ◌≤◌, IsTrue, ◌↔◌, Bool, true, false, cond, eqb, ◌&&◌, List, [], ◌∷◌, ◌++◌, length, take, refl, sym, ap, ◌∙◌, subst, arith, append_assoc, length-append}
 use Rattle.std.proofs.lemmas.List.{take_all}
 use Rattle.std.specs.declared.option.Option.{Option}
-use Rattle.http_wire.specs.Cut.{drop_blank, HasNoHead, head_limit}
+use Rattle.http_heads.specs.Cut.{drop_blank, HasNoHead, head_limit}
 use Rattle.http_front.specs.Buffers.{Pending}
 use Rattle.http_front.specs.Skips.{IsBlank, Skips}
-use Rattle.http_wire.specs.Requests.{AreRequests}
+use Rattle.http_requests.specs.Requests.{AreRequests}
 use Rattle.http_front.specs.Reading.{Moves}
 use Rattle.http_front.proofs.Blanks.{blank_front, splits}
 use Rattle.http_front.proofs.Comes.{took}

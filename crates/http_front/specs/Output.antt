@@ -14,10 +14,10 @@ use Rattle.repo_model.specs.Config.{Config}
 use Rattle.repo_model.specs.State.{State}
 use Rattle.repo_model.specs.Outcome.{Outcome}
 use Rattle.repo_model.specs.Step.{outcome}
-use Rattle.http_wire.specs.declared.head.Head.{Head}
-use Rattle.http_wire.specs.declared.method.Method.{Method}
-use Rattle.http_wire.specs.declared.method.Method.TheVariants as methods
-use Rattle.http_wire.specs.Requests.{Item, refused, whole, cut}
+use Rattle.http_heads.specs.declared.head.Head.{Head}
+use Rattle.http_heads.specs.declared.method.Method.{Method}
+use Rattle.http_heads.specs.declared.method.Method.TheVariants as methods
+use Rattle.http_requests.specs.Requests.{Item, refused, whole, stopped, cut}
 use Rattle.http_front.specs.Contents.{Contents, with_content}
 use Rattle.http_front.specs.Answers.{Answer, response_of}
 
@@ -83,7 +83,8 @@ asked_for config digest state contents moment asked content methods.Delete = cal
 abbrev pub made_by : Config → (List ℕ → List ℕ) → State → Contents → Moment → Item → Made
 made_by config digest state contents moment (refused w bare) = record { entries = []; new = state; contents = contents }
 made_by config digest state contents moment (whole asked content) = asked_for config digest state contents moment asked (Some content) asked.method
-made_by config digest state contents moment (cut asked part) = asked_for config digest state contents moment asked None asked.method
+made_by config digest state contents moment (stopped asked content why) = asked_for config digest state contents moment asked None asked.method
+made_by config digest state contents moment (cut asked content) = asked_for config digest state contents moment asked None asked.method
 
 -- a run: its entries, its bytes, what stands after it, and whether it ended before its requests did
 pub record Output : Type 0 where

@@ -2,13 +2,18 @@
 use Rattle.std.specs.Prelude.{◌≡◌, ℕ, ◌+◌, ◌<◌, ◌≤◌, Bool, true, List, [], ◌++◌, length}
 use Rattle.std.specs.declared.option.Option.{Option}
 use Rattle.std.specs.Io.KnownBytes.{Consumes, IsAtEnd}
-use Rattle.http_wire.specs.declared.head.Head.{Head}
-use Rattle.http_wire.specs.declared.head_err.HeadErr.{HeadErr}
+use Rattle.http_heads.specs.declared.head.Head.{Head}
+use Rattle.http_heads.specs.declared.head_err.HeadErr.{HeadErr}
+use Rattle.http_heads.specs.declared.body_err.BodyErr.{BodyErr}
+use Rattle.http_heads.specs.declared.framing.Framing.{Framing}
+use Rattle.http_heads.specs.Cut.{drop_blank}
+use Rattle.http_chunks.specs.Reading as readings
+use Rattle.http_requests.specs.Heads.{Accepts, IsRefused}
+use Rattle.http_requests.specs.Bodies.{HoldsBody}
+use Rattle.http_requests.specs.Requests.{AreRequests, stop_of}
 use Rattle.http_front.specs.Buffers.{Pending, input_limit}
 use Rattle.http_front.specs.Fills.{Halts, IsWithin}
-use Rattle.http_wire.specs.Requests.{Accepts, AreRequests, IsRefused}
-use Rattle.http_wire.specs.Cut.{drop_blank}
-use Rattle.http_front.specs.Asking.{IsBuilt}
+use Rattle.http_front.specs.Asking.{OnlyPutHasContent}
 use Rattle.http_front.specs.declared.head_reader.NextHead.{NextHead}
 use Rattle.http_front.specs.declared.head_reader.NextHead.TheVariants as heads
 use Rattle.http_front.specs.declared.content_reader.Content.{Content}
@@ -27,7 +32,7 @@ pub record TookHead (left left' : Option (List ℕ)) (old new : Pending) (head :
   pub taken : List ℕ
   pub some : 0 < length taken
   pub moves : Moves left left' old new taken
-  pub built : IsBuilt head
+  pub fits : OnlyPutHasContent head
   pub accepts : (rest : List ℕ) → Accepts (drop_blank (taken ++ rest)) head rest
 
 -- the input ended
@@ -54,11 +59,23 @@ IsNextHead left left' ended reads reads' old new (heads.Refused why bare) = MetR
 IsNextHead left left' ended reads reads' old new (heads.End inside) = MetEnd left left' ended old.total (λ came. AreRequests (old.waiting ++ came) [] inside)
 IsNextHead left left' ended reads reads' old new (heads.Halt halt) = Halts (HasNoRequest old) left left' old.total reads reads' halt
 
--- fewer bytes than the content has
-abbrev pub IsShort : Pending → ℕ → List ℕ → Type 0
-IsShort old size came = length (old.waiting ++ came) < size
+-- the bytes end in the content
+abbrev pub IsCut : Pending → Framing → List ℕ → Type 0
+IsCut old framing came = (content : List ℕ) × HoldsBody framing (old.waiting ++ came) (readings.cut content)
 
-abbrev pub IsContent : Option (List ℕ) → Option (List ℕ) → Bool → ℕ → ℕ → Pending → Pending → ℕ → Content → Type 0
-IsContent left left' ended reads reads' old new size (contents.Whole content) = (length content.items ≡ size) × Moves left left' old new content.items
-IsContent left left' ended reads reads' old new size contents.Cut = MetEnd left left' ended old.total (IsShort old size)
-IsContent left left' ended reads reads' old new size (contents.Halt halt) = Halts (IsShort old size) left left' old.total reads reads' halt
+-- the content was taken, whatever follows it
+abbrev pub TookContent : Option (List ℕ) → Option (List ℕ) → Pending → Pending → Framing → List ℕ → Type 0
+TookContent left left' old new framing content =
+    (taken : List ℕ) × Moves left left' old new taken × ((rest : List ℕ) → HoldsBody framing (taken ++ rest) (readings.whole content rest))
+
+-- the content is refused, whatever comes behind what was read
+abbrev pub MetStop : Option (List ℕ) → Option (List ℕ) → Pending → Framing → BodyErr → Type 0
+MetStop left left' old framing why =
+    (came : List ℕ) × (content : List ℕ) × Consumes left left' came × IsWithin old.total came
+    × ((more : List ℕ) → HoldsBody framing ((old.waiting ++ came) ++ more) (stop_of content why))
+
+abbrev pub IsContent : Option (List ℕ) → Option (List ℕ) → Bool → ℕ → ℕ → Pending → Pending → Framing → Content → Type 0
+IsContent left left' ended reads reads' old new framing (contents.Whole content) = TookContent left left' old new framing content.items
+IsContent left left' ended reads reads' old new framing (contents.Stopped why) = MetStop left left' old framing why
+IsContent left left' ended reads reads' old new framing contents.Cut = MetEnd left left' ended old.total (IsCut old framing)
+IsContent left left' ended reads reads' old new framing (contents.Halt halt) = Halts (IsCut old framing) left left' old.total reads reads' halt

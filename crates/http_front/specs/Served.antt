@@ -6,7 +6,7 @@ use Rattle.repo_model.specs.declared.reply.Reply.TheVariants as reply
 use Rattle.repo_model.specs.Config.{Config}
 use Rattle.repo_model.specs.State.{State}
 use Rattle.repo_model.specs.Removal.{same_blob}
-use Rattle.http_wire.specs.Requests.{Item}
+use Rattle.http_requests.specs.Requests.{Item}
 use Rattle.http_front.specs.Contents.{Contents}
 use Rattle.http_front.specs.Answers.{last_reply}
 use Rattle.http_front.specs.Output.{Draws, made_by}

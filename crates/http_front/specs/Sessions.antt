@@ -1,12 +1,15 @@
 -- What a session has read and written when it ends.
-use Rattle.std.specs.Prelude.{◌≡◌, ℕ, ◌<◌, ◌≤◌, Bool, true, false, List, [], ◌∷◌, ◌++◌, length, take, Result, Ok, Err}
+use Rattle.std.specs.Prelude.{◌≡◌, ℕ, ◌<◌, ◌≤◌, ◌⊎◌, Bool, true, false, List, [], ◌∷◌, ◌++◌, length, take, Result, Ok, Err}
 use Rattle.std.specs.declared.option.Option.{Option}
 use Rattle.std.specs.Io.KnownBytes.{Consumes, Appends, IsAtEnd}
 use Rattle.nx_io.specs.Causes.{Rose}
 use Rattle.http_front.specs.Buffers.{input_limit}
 use Rattle.http_front.specs.Replying.{Says}
-use Rattle.http_wire.specs.Requests.{Item, AreRequests}
-use Rattle.http_front.specs.Asking.{is_refused}
+use Rattle.http_requests.specs.Requests.{Item, AreRequests}
+use Rattle.http_heads.specs.declared.head.Head.{Head}
+use Rattle.http_heads.specs.Cut.{drop_blank}
+use Rattle.http_requests.specs.Heads.{Accepts}
+use Rattle.http_front.specs.Asking.{is_last, IsOf}
 use Rattle.http_front.specs.declared.end.End.{End}
 use Rattle.http_front.specs.declared.end.End.TheVariants as ends
 use Rattle.http_front.specs.declared.halt.Halt.{Halt}
@@ -46,16 +49,35 @@ pub record HasSaidPart (says : Says) (left left' taken taken' : Option (List ℕ
   pub holds : AreRequests read requests inside
   pub wrote : Appends taken taken' (take count (says requests))
 
--- the last of the requests is refused
-abbrev pub ends_refused : List Item → Bool
-ends_refused [] = false
-ends_refused (item ∷ []) = is_refused item
-ends_refused (item ∷ next ∷ items) = ends_refused (next ∷ items)
+-- The first bytes that were read hold the requests, and behind them stands an accepted head. The answer to it was written before its
+-- content was looked at, and ended the session: whatever its content is and whatever follows that, this is what is said.
+pub record HasDenied (says : Says) (left left' taken taken' : Option (List ℕ)) : Type 0 where
+  pub first : List ℕ
+  pub text : List ℕ
+  pub rest : List ℕ
+  pub requests : List Item
+  pub head : Head
+  pub consumed : Consumes left left' (first ++ (text ++ rest))
+  pub few : length (first ++ (text ++ rest)) ≤ input_limit
+  pub holds : (more : List ℕ) (items : List Item) (inside : Bool) → AreRequests more items inside → AreRequests (first ++ more) (requests ++ items) inside
+  pub accepts : (more : List ℕ) → Accepts (drop_blank (text ++ more)) head more
+  pub wrote : (item : Item) (items : List Item) → IsOf head item → Appends taken taken' (says (requests ++ item ∷ items))
+
+-- the session ends after the last of the requests
+abbrev pub ends_session : List Item → Bool
+ends_session [] = false
+ends_session (item ∷ []) = is_last item
+ends_session (item ∷ next ∷ items) = ends_session (next ∷ items)
+
+-- the last response closed the session: that to the last request, or one that came before a content was read
+abbrev pub HasClosed : Says → Option (List ℕ) → Option (List ℕ) → Option (List ℕ) → Option (List ℕ) → Type 0
+HasClosed says left left' taken taken' =
+    ((s : HasSaid says left left' taken taken' false) × (ends_session s.requests ≡ true)) ⊎ HasDenied says left left' taken taken'
 
 -- what each end says
 abbrev pub EndsAs : End → Says → Option (List ℕ) → Option (List ℕ) → Bool → Option (List ℕ) → Option (List ℕ) → Type 0
 EndsAs ends.Clean says left left' ended taken taken' = HasSaid says left left' taken taken' false × IsAtEnd left' × (ended ≡ true)
-EndsAs ends.Closed says left left' ended taken taken' = (s : HasSaid says left left' taken taken' false) × (ends_refused s.requests ≡ true)
+EndsAs ends.Closed says left left' ended taken taken' = HasClosed says left left' taken taken'
 EndsAs ends.Cut says left left' ended taken taken' = HasSaid says left left' taken taken' true × IsAtEnd left' × (ended ≡ true)
 EndsAs ends.ReadFault says left left' ended taken taken' = (inside : Bool) × HasSaid says left left' taken taken' inside
 EndsAs ends.WriteFault says left left' ended taken taken' = HasSaidPart says left left' taken taken'

@@ -1,6 +1,6 @@
 -- What is taken from the bytes that wait: line ends between requests, and a content.
 use Rattle.std.specs.Prelude.{◌≡◌, List, [], ℕ, ◌<◌, ◌≤◌, ◌++◌, length}
-use Rattle.http_wire.specs.Cut.{drop_blank}
+use Rattle.http_heads.specs.Cut.{drop_blank}
 use Rattle.http_front.specs.Buffers.{Pending}
 
 -- whole line ends, which are dropped whatever follows them

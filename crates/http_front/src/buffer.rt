@@ -1,11 +1,11 @@
-ghost use Rattle.std.specs.Prelude.{◌≡◌, ◌≤◌, ◌++◌, ◌^◌, ℕ, List, [], false, drop, length, OnOk, OnErr, IsTrue, ◌↔◌, ◌<◌};
+ghost use Rattle.std.specs.Prelude.{◌≡◌, ◌≤◌, ◌++◌, ◌^◌, ℕ, List, [], false, drop, take, length, OnOk, OnErr, IsTrue, ◌↔◌, ◌<◌};
 ghost use Rattle.http_front.specs.Buffers.{Pending};
 ghost use Rattle.http_front.specs.Fills.{Filled};
 ghost use Rattle.http_front.specs.Skips.{Skips, Pours};
 
 use crate::fill::Fill;
 use crate::halt::Halt;
-use http_wire::blank_len;
+use http_heads::blank_len;
 use nx_io::{Failed, NoMemory, Source};
 use std::alloc::Global;
 use std::marker::Model;
@@ -84,9 +84,18 @@ impl Buffer {
         ensures ok { OnOk result (Pours self.old self.new content.old.items content.new.items size) }
         ensures err { OnErr result (self.new ≡ self.old) }
     {
-        let waiting = self.waiting();
-        let count = waiting.len().min(size - content.len());
-        append(content, &waiting[..count])?;
+        let count = self.waiting().len().min(size - content.len());
+        self.move_first(content, count)
+    }
+
+    /// Moves so many bytes in front behind a content.
+    pub fn move_first(&mut self, content: &mut Vec<u8>, count: usize) -> Result<(), NoMemory>
+        requires { count ≤ length self.old.waiting }
+        ensures content { OnOk result (content.new.items ≡ content.old.items ++ take count self.old.waiting) }
+        ensures rest { OnOk result (self.new ≡ record self.old { waiting = drop count self.old.waiting }) }
+        ensures err { OnErr result (self.new ≡ self.old) }
+    {
+        append(content, &self.waiting()[..count])?;
         self.take(count);
         Ok(())
     }
@@ -128,8 +137,8 @@ impl Buffer {
         ensures within { self.new.total ≤ 2 ^ 40 }
     {
         let room = INPUT_LIMIT - self.total;
-        let mut piece = [0u8; 4096];
-        let wanted = room.min(4096).max(1) as usize;
+        let mut piece = [0u8; 32_768];
+        let wanted = room.min(32_768).max(1) as usize;
         let Ok(count) = input.read(&mut piece[..wanted]) else {
             return Fill::Halt(Halt::ReadFault);
         };

@@ -5,7 +5,7 @@ use crate::buffer::Buffer;
 use crate::fill::Fill;
 use crate::halt::Halt;
 use crate::look::{Look, look_at};
-use http_wire::{Head, HeadErr};
+use http_heads::{Head, HeadErr};
 use nx_io::Source;
 use std::alloc::Global;
 

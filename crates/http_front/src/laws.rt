@@ -1,7 +1,7 @@
 ghost use Rattle.std.specs.Prelude.{◌≡◌, ℕ, List, []};
 ghost use Rattle.repo_model.specs.Config.{Config};
 ghost use Rattle.repo_model.specs.State.{State};
-ghost use Rattle.http_wire.specs.Requests.{Item};
+ghost use Rattle.http_requests.specs.Requests.{Item};
 ghost use Rattle.http_front.specs.Contents.{Contents};
 ghost use Rattle.http_front.specs.Said.{said};
 ghost use Rattle.http_front.specs.Output.{Draws, output_of};

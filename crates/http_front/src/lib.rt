@@ -1,6 +1,6 @@
-//! What a session says to its requests.
+//! A session: what it reads, and what is said to its requests.
 //!
-//! The words: a *request* is what the input holds (`http_wire`), an *entry* is a call of the repository with its reply
+//! The words: a *request* is what the input holds (`http_requests`), an *entry* is a call of the repository with its reply
 //! (`repo_model`), an *answer* is the bytes that are said to one request and whether the session ends after them, a *stop* is
 //! what ended a request beside the entries.
 //!
@@ -8,9 +8,13 @@
 //! - `said` joins the answers to a list of requests, by the entries that they made, up to the first that ends the session;
 //! - `output_of` makes the entries too: it runs the one-thread repository over the requests.
 //!
-//! Promised here is the law between the last two, `output_is_said`.
+//! [`output_is_said`] is the law between the last two. [`run_session`] reads requests from a source and hands them to what
+//! answers them ([`Replies`]): first the head, and where its content is wanted, be it none, then the content, by its framing.
+//! Its contract says of each end ([`End`]) what was read and what was written (`EndsAs`, specs/Sessions.antt), however the
+//! bytes come: the requests that were read have been answered, in their order, and nothing else was written.
 #![tactic(auto)]
 
+mod begun;
 mod buffer;
 mod content_reader;
 mod end;
@@ -23,6 +27,7 @@ mod replies;
 mod session;
 mod stop;
 
+pub use begun::Begun;
 pub use end::End;
 pub use laws::{output_is_said, rows_hold};
 pub use replies::{Replies, Unsaid};

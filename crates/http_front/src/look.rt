@@ -1,8 +1,8 @@
 ghost use Rattle.std.specs.Prelude.{◌≡◌, ◌≤◌, length, take};
-ghost use Rattle.http_wire.specs.Cut.{HasNoHead, head_limit};
+ghost use Rattle.http_heads.specs.Cut.{HasNoHead, head_limit};
 ghost use Rattle.http_front.specs.Looks.{IsLook, look_refused};
 
-use http_wire::{Head, HeadErr, head_len, read_head};
+use http_heads::{Head, HeadErr, head_len, read_head};
 use std::alloc::Global;
 
 /// The most bytes of a head.
@@ -48,7 +48,7 @@ fn refused(why: HeadErr, bare: bool) -> Look
 }
 
 /// Where no head stands in the first bytes.
-#[tactic(auto, unfolding(http_wire::specs::Cut::head_limit))]
+#[tactic(auto, unfolding(http_heads::specs::Cut::head_limit))]
 fn no_head(waiting: &[u8]) -> Look
     requires { HasNoHead (take head_limit waiting.now) }
     ensures { IsLook waiting.now result }
@@ -57,7 +57,7 @@ fn no_head(waiting: &[u8]) -> Look
         return Look::Open;
     }
     Look::Refused {
-        why: HeadErr::BadHead,
+        why: HeadErr::HeadTooLarge,
         bare: waiting[..HEAD_LIMIT].starts_with(b"HEAD "),
     }
 }

@@ -1,26 +1,14 @@
-ghost use Rattle.std.specs.Prelude.{◌≡◌};
 ghost use Rattle.http_front.specs.Replying.{Says};
 ghost use Rattle.http_front.specs.Sessions.{EndsAs, HasEndCause};
-ghost use Rattle.http_wire.specs.Requests.{body_len};
 
+use crate::begun::Begun;
 use crate::buffer::Buffer;
 use crate::content_reader::{Content, read_content};
 use crate::end::End;
 use crate::head_reader::{NextHead, next_head};
 use crate::replies::Replies;
-use http_wire::Framing;
 use nx_io::{Sink, Source};
 use std::alloc::Global;
-
-/// The bytes of a body.
-fn length_of(framing: Framing) -> usize
-    ensures { result ≡ body_len framing }
-{
-    match framing {
-        Framing::None | Framing::Chunked => 0,
-        Framing::Length(length) => length as usize,
-    }
-}
 
 /// Answers the requests of the input, up to the first that ends the session.
 pub fn run_session<R: Replies, S: Source, K: Sink>(
@@ -42,15 +30,27 @@ pub fn run_session<R: Replies, S: Source, K: Sink>(
             NextHead::End { inside } => return End::of_input(inside),
             NextHead::Halt(halt) => return End::of_halt(halt),
         };
+        match replies.begin(alloc, &head, output) {
+            Ok(Begun::Wanted) => {}
+            Ok(Begun::Answered) => continue 'requests,
+            Ok(Begun::Last) => return End::Closed,
+            Err(unsaid) => return End::of_unsaid(unsaid),
+        }
         replies.cut(&head);
-        let size = length_of(head.framing);
-        let content = match read_content(alloc, input, &mut buffer, size) {
+        let content = match read_content(alloc, input, &mut buffer, head.framing) {
             Content::Whole(content) => content,
+            Content::Stopped(why) => {
+                return End::of_refusal(replies.stopped(alloc, &head, why, output));
+            }
             Content::Cut => return End::Cut,
             Content::Halt(halt) => return End::of_halt(halt),
         };
+        let closes = head.closes;
         if let Err(unsaid) = replies.whole(alloc, head, content, output) {
             return End::of_unsaid(unsaid);
+        }
+        if closes {
+            return End::Closed;
         }
     }
 }

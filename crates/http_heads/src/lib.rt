@@ -1,5 +1,4 @@
-//! The heads of HTTP/1.1 requests in the whole of this project's profile, and the heads of responses. It stands beside
-//! `http_wire`, which serves the first profile until sessions stand on this one.
+//! The heads of HTTP/1.1 requests in the whole of this project's profile, and the heads of responses.
 //!
 //! - A *head* is the shortest front of the bytes, behind line ends that are dropped, that ends with an empty line
 //!   (specs/Cut.antt). It has at most 16,384 bytes (this project's own limit).

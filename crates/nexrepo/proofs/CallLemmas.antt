@@ -1,5 +1,5 @@
 -- What the calls of a repository in memory lead to.
-use Rattle.std.proofs.Common.{◌≡◌, ℕ, ◌+◌, ◌^◌, ◌<◌, ◌≤◌, Bool, true, false, cond, nat_le, List, [], length, Option, Some, None, codes, refl, sym, ap, ◌∙◌, subst, arith}
+use Rattle.std.proofs.Common.{◌≡◌, ℕ, ◌+◌, ◌^◌, ◌<◌, ◌≤◌, Bool, true, false, cond, nat_le, List, [], length, Option, Some, None, is_some, codes, refl, sym, ap, ◌∙◌, subst, arith}
 use Rattle.std.proofs.lemmas.Bool.{le-leb, leb-true}
 use Rattle.std.specs.Map.{lookup}
 use Rattle.std.specs.FinMap as map
@@ -22,15 +22,17 @@ use Rattle.repo_model.specs.Stamps.{greatest_time, time_of, next_stamp}
 use Rattle.repo_model.specs.State.{State, row_of}
 use Rattle.repo_model.specs.Storing.{is_taken, with_asset}
 use Rattle.repo_model.specs.Serving.{downloaded}
+use Rattle.http_front.specs.Contents.{Contents}
 use Rattle.nexrepo.specs.declared.memory_repo.MemoryRepo.{MemoryRepo}
 use Rattle.nexrepo.specs.declared.memory_repo.Put.TheVariants as puts
 use Rattle.nexrepo.specs.declared.stored_asset.StoredAsset.{StoredAsset}
-use Rattle.nexrepo.specs.StoredAssets.{SetsAt, seen}
-use Rattle.nexrepo.specs.Tracking.{Tracks, Leads, stamp_in}
-use Rattle.nexrepo.specs.Putting.{PutLeads, GetLeads, get_reply, next_blob}
+use Rattle.repo_model.specs.Deleting.{without_row}
+use Rattle.nexrepo.specs.StoredAssets.{SetsAt, LosesAt, seen}
+use Rattle.nexrepo.specs.Tracking.{Tracks, Leads, stamp_in, stored_of}
+use Rattle.nexrepo.specs.Putting.{PutLeads, GetLeads, DeleteLeads, delete_reply, get_reply, next_blob}
 use Rattle.nexrepo.proofs.StampLemmas.{stamp_in-id_made}
-use Rattle.nexrepo.proofs.StepLemmas.{in_files, put_asset, put, stamps_used, found, not_found}
-use Rattle.nexrepo.proofs.TrackLemmas.{stored, noted, unchanged, free}
+use Rattle.nexrepo.proofs.StepLemmas.{in_files, put_asset, put, stamps_used, found, not_found, head_found, head_missing, deleted, nothing_deleted}
+use Rattle.nexrepo.proofs.TrackLemmas.{stored, noted, unchanged, free, lost, not_lost}
 
 pub same_key : (key : Key) → key.repo ≡ codes "files" → in_files key.path ≡ key
 same_key key e = ap (λ (r : List ℕ). let k : Key = record { repo = r; path = key.path } in k) (sym e)
@@ -121,3 +123,47 @@ looked_at old new key now time e at st la f g =
     let P : Key → Type 0 = λ k. (entry : StoredAsset) → get key_cmp old.assets k ≡ Some entry → SetsAt old.assets new.assets k (seen entry time) in
     let Q : Key → Type 0 = λ k. get key_cmp old.assets k ≡ None → new.assets.entries ≡ old.assets.entries in
     subst (λ (k : Key). GetLeads old new k now) same (looked old new key.path now time at st la (subst P (sym same) f) (subst Q (sym same) g))
+
+-- a look at the head alone
+head_leads : (memory : MemoryRepo) (p : List ℕ) (m : Moment) (s : State) (contents : Contents) → Tracks memory s contents → Leads s [] (call.Get (in_files p) look.Head m remote.NotAsked) (get_reply memory (in_files p)) s
+head_leads memory p m s contents k = split (stored_of memory (in_files p)) refl
+  where
+    split : (o : Option StoredAsset) → stored_of memory (in_files p) ≡ o → Leads s [] (call.Get (in_files p) look.Head m remote.NotAsked) (get_reply memory (in_files p)) s
+    split None is =
+        subst (λ (o : Option StoredAsset). Leads s [] (call.Get (in_files p) look.Head m remote.NotAsked) (given o (reply.Refused refusal.NotFound) (λ entry. reply.Found entry.asset)) s) (sym is)
+        (head_missing s p m k.sound (k.rows (in_files p) ∙ ap (option_map (λ (x : StoredAsset). x.asset)) is))
+    split (Some entry) is =
+        subst (λ (o : Option StoredAsset). Leads s [] (call.Get (in_files p) look.Head m remote.NotAsked) (given o (reply.Refused refusal.NotFound) (λ entry. reply.Found entry.asset)) s) (sym is)
+        (head_found s p m entry.asset k.sound (k.rows (in_files p) ∙ ap (option_map (λ (x : StoredAsset). x.asset)) is))
+
+pub head_leads_at : (memory : MemoryRepo) (key : Key) (m : Moment) (s : State) (contents : Contents) → key.repo ≡ codes "files" → Tracks memory s contents
+    → Leads s [] (call.Get key look.Head m remote.NotAsked) (get_reply memory key) s
+head_leads_at memory key m s contents e k =
+    subst (λ (q : Key). Leads s [] (call.Get q look.Head m remote.NotAsked) (get_reply memory q) s) (same_key key e) (head_leads memory key.path m s contents k)
+
+-- a deletion
+removed : (old new : MemoryRepo) (p : List ℕ) (was : Bool) → was ≡ is_some (get key_cmp old.assets (in_files p)) → LosesAt old.assets new.assets (in_files p) → new.store ≡ old.store → new.last ≡ old.last
+    → DeleteLeads old new (in_files p) was
+removed old new p was e g st la s contents now k = split (get key_cmp old.assets (in_files p)) refl
+  where
+    split : (o : Option StoredAsset) → get key_cmp old.assets (in_files p) ≡ o → (next : State) × Leads s [] (call.Delete (in_files p) now) (delete_reply was) next × Tracks new next contents
+    split None is =
+        let not_there : was ≡ false = e ∙ ap is_some is in (
+          s,
+          subst (λ (b : Bool). Leads s [] (call.Delete (in_files p) now) (delete_reply b) s) (sym not_there) (nothing_deleted s p now k.sound (k.rows (in_files p) ∙ ap (option_map (λ (x : StoredAsset). x.asset)) is)),
+          not_lost old new s contents (in_files p) k is g st la,
+        )
+    split (Some entry) is =
+        let there : was ≡ true = e ∙ ap is_some is in (
+          without_row s (in_files p) entry.asset (time_of now),
+          subst (λ (b : Bool). Leads s [] (call.Delete (in_files p) now) (delete_reply b) (without_row s (in_files p) entry.asset (time_of now))) (sym there)
+              (deleted s p now entry.asset k.sound (k.rows (in_files p) ∙ ap (option_map (λ (x : StoredAsset). x.asset)) is)),
+          lost old new s contents (in_files p) entry.asset (time_of now) k g st la,
+        )
+
+pub removed_at : (old new : MemoryRepo) (key : Key) (was : Bool) → key.repo ≡ codes "files" → was ≡ is_some (get key_cmp old.assets key) → LosesAt old.assets new.assets key → new.store ≡ old.store → new.last ≡ old.last
+    → DeleteLeads old new key was
+removed_at old new key was at e g st la =
+    let same : in_files key.path ≡ key = same_key key at in
+    subst (λ (k : Key). DeleteLeads old new k was) same
+    (removed old new key.path was (subst (λ (k : Key). was ≡ is_some (get key_cmp old.assets k)) (sym same) e) (subst (λ (k : Key). LosesAt old.assets new.assets k) (sym same) g) st la)

@@ -21,12 +21,14 @@ use Rattle.repo_model.specs.Spots.{spot_of, spot_cmp}
 use Rattle.repo_model.specs.Removal.{same_blob}
 use Rattle.repo_model.specs.State.{State, row_of, empty_state}
 use Rattle.repo_model.specs.Storing.{is_taken, with_asset}
+use Rattle.nx_base.proofs.Orders.{exact_keys}
 use Rattle.repo_model.proofs.SpotOrder.{spot_cmp_total, exact_spots}
 use Rattle.http_front.specs.Contents.{Contents, bytes_of}
 use Rattle.http_front.specs.Served.{Has}
 use Rattle.nexrepo.specs.declared.memory_repo.MemoryRepo.{MemoryRepo}
 use Rattle.nexrepo.specs.declared.stored_asset.StoredAsset.{StoredAsset}
-use Rattle.nexrepo.specs.StoredAssets.{SetsAt}
+use Rattle.repo_model.specs.Deleting.{without_row}
+use Rattle.nexrepo.specs.StoredAssets.{SetsAt, LosesAt}
 use Rattle.nexrepo.specs.Tracking.{Tracks, stamp_in}
 
 abbrev Kept : Contents → BlobRef → List ℕ → Type 0
@@ -197,3 +199,46 @@ empty memory e la st =
       sound = refl;
       store = st;
     }
+
+-- a row is gone
+
+rows_lost : (s : State) (old new : BTreeMap Key StoredAsset) (k : Key) → ((q : Key) → row_of s q ≡ option_map (λ (x : StoredAsset). x.asset) (get key_cmp old q)) → LosesAt old new k
+    → (q : Key) → map.get (map.remove s.rows k) q ≡ option_map (λ (x : StoredAsset). x.asset) (get key_cmp new q)
+rows_lost s old new k f g q =
+    map.get-remove key_cmp_total s.rows k q ∙ ap (λ (b : Bool). cond b None (row_of s q)) ((eq_by_cmp_equiv key_cmp_total).symm q k) ∙ pick (is_at (key_cmp k) q) refl
+  where
+    pick : (b : Bool) → is_at (key_cmp k) q ≡ b → cond b None (row_of s q) ≡ option_map (λ (x : StoredAsset). x.asset) (get key_cmp new q)
+    pick true e = sym (ap (option_map (λ (x : StoredAsset). x.asset)) (g q ∙ ap (λ (b : Bool). cond b None (get key_cmp old q)) e))
+    pick false e = f q ∙ sym (ap (option_map (λ (x : StoredAsset). x.asset)) (g q ∙ ap (λ (b : Bool). cond b None (get key_cmp old q)) e))
+
+bytes_left : (P : StoredAsset → Type 0) (old new : BTreeMap Key StoredAsset) (k : Key) → LosesAt old new k → ((q : Key) → IfSome (get key_cmp old q) P) → (q : Key) → IfSome (get key_cmp new q) P
+bytes_left P old new k g f q = pick (is_at (key_cmp k) q) refl
+  where
+    pick : (b : Bool) → is_at (key_cmp k) q ≡ b → IfSome (get key_cmp new q) P
+    pick true e = subst (λ (o : Option StoredAsset). IfSome o P) (sym (g q ∙ ap (λ (b : Bool). cond b None (get key_cmp old q)) e)) tt
+    pick false e = subst (λ (o : Option StoredAsset). IfSome o P) (sym (g q ∙ ap (λ (b : Bool). cond b None (get key_cmp old q)) e)) (f q)
+
+-- the content of a key was deleted
+pub lost : (old new : MemoryRepo) (s : State) (contents : Contents) (k : Key) (asset : Asset) (at : ℕ) → Tracks old s contents → LosesAt old.assets new.assets k → new.store ≡ old.store → new.last ≡ old.last
+    → Tracks new (without_row s k asset at) contents
+lost old new s contents k asset at t g st la = record {
+  rows = rows_lost s old.assets new.assets k t.rows g;
+  bytes = bytes_left (λ (x : StoredAsset). Kept contents x.asset.blob x.bytes.items) old.assets new.assets k g t.bytes;
+  last = t.last ∙ sym la;
+  older = rw la t.older;
+  taken = rw la t.taken;
+  sound = t.sound;
+  store = st ∙ t.store;
+}
+
+-- nothing was there to delete
+pub not_lost : (old new : MemoryRepo) (s : State) (contents : Contents) (k : Key) → Tracks old s contents → get key_cmp old.assets k ≡ None → LosesAt old.assets new.assets k → new.store ≡ old.store → new.last ≡ old.last
+    → Tracks new s contents
+not_lost old new s contents k t none g st la = unchanged old new s contents t (λ q. same q (is_at (key_cmp k) q) refl) st la
+  where
+    at_key : (q : Key) → is_at (key_cmp k) q ≡ true → get key_cmp old.assets q ≡ None
+    at_key q e = let same_key : k ≡ q = exact_keys k q (tie (key_cmp k q) e) in subst (λ (x : Key). get key_cmp old.assets x ≡ None) same_key none
+
+    same : (q : Key) (b : Bool) → is_at (key_cmp k) q ≡ b → get key_cmp new.assets q ≡ get key_cmp old.assets q
+    same q true e = g q ∙ ap (λ (b : Bool). cond b None (get key_cmp old.assets q)) e ∙ sym (at_key q e)
+    same q false e = g q ∙ ap (λ (b : Bool). cond b None (get key_cmp old.assets q)) e

@@ -1,5 +1,5 @@
 -- The one configuration of the first path: the hosted repository `files` writes to the store `default`, and whoever may write may write again.
-use Rattle.std.specs.Prelude.{false, [], ◌∷◌, None, codes}
+use Rattle.std.specs.Prelude.{ℕ, Bool, false, List, bytes_eq, [], ◌∷◌, None, codes}
 use Rattle.nx_base.specs.Fills.{Group}
 use Rattle.nx_base.specs.declared.fill.Fill.TheVariants.{First}
 use Rattle.nx_base.specs.declared.policy.Policy.TheVariants.{Redeploy}
@@ -14,3 +14,7 @@ default_store = record { members = record { store = codes "default"; read_only =
 
 abbrev pub first_config : Config
 first_config = record { repos = (codes "files", files_repo) ∷ []; groups = (codes "default", default_store) ∷ []; policies = []; compact_age = 0 }
+
+-- whether a repository is that one
+abbrev pub is_files : List ℕ → Bool
+is_files repo = bytes_eq repo (codes "files")

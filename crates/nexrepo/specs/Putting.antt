@@ -1,5 +1,5 @@
 -- What the calls of a repository in memory do.
-use Rattle.std.specs.Prelude.{◌≡◌, ◌≤◌, ℕ, ◌+◌, List, [], length, Option, Some, None, codes}
+use Rattle.std.specs.Prelude.{◌≡◌, ◌≤◌, ℕ, ◌+◌, Bool, true, false, List, [], length, Option, Some, None, codes}
 use Rattle.sha1.specs.Sha1.{sha1}
 use Rattle.nx_base.specs.Ids.{id_made}
 use Rattle.nx_base.specs.Given.{given}
@@ -49,6 +49,16 @@ abbrev pub GetLeads : MemoryRepo → MemoryRepo → Key → ℕ → Type 0
 GetLeads old new key now =
     (state : State) (contents : Contents) (moment : Moment) → Tracks old state contents → moment.now ≡ now
     → (next : State) × Leads state [] (call.Get key look.Get moment remote.NotAsked) (get_reply new key) next × Tracks new next contents
+
+-- what a deletion answers, where the key had content or not
+abbrev pub delete_reply : Bool → Reply
+delete_reply true = reply.Gone
+delete_reply false = reply.Refused refusal.NotFound
+
+abbrev pub DeleteLeads : MemoryRepo → MemoryRepo → Key → Bool → Type 0
+DeleteLeads old new key was =
+    (state : State) (contents : Contents) (now : ℕ) → Tracks old state contents
+    → (next : State) × Leads state [] (call.Delete key now) (delete_reply was) next × Tracks new next contents
 
 abbrev pub IsFound : MemoryRepo → Key → Option StoredAsset → Type 0
 IsFound memory key entry = entry ≡ stored_of memory key

@@ -1,7 +1,7 @@
-ghost use Rattle.std.specs.Prelude.{◌≡◌, OnOk};
+ghost use Rattle.std.specs.Prelude.{◌≡◌, OnOk, is_some};
 ghost use Rattle.std.specs.BTreeMap.{get};
 ghost use Rattle.nx_base.specs.Order.{key_cmp};
-ghost use Rattle.nexrepo.specs.StoredAssets.{SetsAt, seen};
+ghost use Rattle.nexrepo.specs.StoredAssets.{SetsAt, LosesAt, seen};
 ghost use Rattle.nexrepo.specs.declared.stored_asset.StoredAsset.{StoredAsset};
 ghost use Rattle.sha1.specs.Sha1.{sha1};
 
@@ -64,12 +64,20 @@ fn note_download(assets: &mut BTreeMap<Key, StoredAsset>, key: &Key, time: u64)
     }
 }
 
+/// Forgets what is kept of a key. Answers whether there was anything.
+fn forget(assets: &mut BTreeMap<Key, StoredAsset>, key: &Key) -> bool
+    ensures was { result ≡ is_some (get key_cmp assets.old key.now) }
+    ensures gone { LosesAt assets.old assets.new key.now }
+{
+    assets.remove(key).is_some()
+}
+
 impl MemoryRepo {
     ghost use Rattle.std.specs.Prelude.{◌≡◌, [], codes, IfOk};
     ghost use Rattle.std.specs.Option.{option_copied};
     ghost use Rattle.repo_model.specs.State.{empty_state};
     ghost use Rattle.nexrepo.specs.Tracking.{Tracks};
-    ghost use Rattle.nexrepo.specs.Putting.{IsNextBlob, PutLeads, GetLeads, IsFound};
+    ghost use Rattle.nexrepo.specs.Putting.{IsNextBlob, PutLeads, GetLeads, DeleteLeads, IsFound};
 
     /// Nothing is kept.
     pub fn new(alloc: Global) -> Result<MemoryRepo, NoMemory>
@@ -139,6 +147,14 @@ impl MemoryRepo {
         ensures { GetLeads self.old self.new key.now now }
     {
         note_download(&mut self.assets, key, now.min(GREATEST_STAMP));
+    }
+
+    /// Deletes what is kept of a key. Answers whether there was anything.
+    pub fn delete(&mut self, key: &Key) -> bool
+        requires { key.now.repo ≡ codes "files" }
+        ensures { DeleteLeads self.old self.new key.now result }
+    {
+        forget(&mut self.assets, key)
     }
 
     /// What is kept of a key.

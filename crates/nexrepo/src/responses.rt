@@ -1,11 +1,11 @@
-ghost use Rattle.std.specs.Prelude.{◌++◌, false, None, Some};
-ghost use Rattle.http_wire.specs.Response.{head_of, why, refused_with};
+ghost use Rattle.std.specs.Prelude.{◌++◌, if◌then◌else◌, [], false, None, Some};
+ghost use Rattle.http_heads.specs.Response.{head_of, why, refused_with};
 ghost use Rattle.http_front.specs.Replying.{HasSinkCause};
 ghost use Rattle.nexrepo.specs.Sending.{Sent};
 
 use crate::stored_asset::StoredAsset;
 use http_front::Unsaid;
-use http_wire::{refusal_response, response_head};
+use http_heads::{refusal_response, response_head};
 use nx_io::{Failed, Sink, put_all};
 use std::alloc::Global;
 
@@ -42,22 +42,48 @@ pub(crate) fn refuse<K: Sink>(
 }
 
 /// Answers a PUT that was stored.
-pub(crate) fn created<K: Sink>(output: &mut K) -> Result<(), Unsaid>
-    ensures sent { Sent (K.taken output.old) (K.taken output.new) (head_of 201 None (Some 0) false) result }
+pub(crate) fn created<K: Sink>(output: &mut K, closes: bool) -> Result<(), Unsaid>
+    ensures sent { Sent (K.taken output.old) (K.taken output.new) (head_of 201 None (Some 0) closes) result }
     ensures cause { HasSinkCause (K.faults output.old) (K.faults output.new) result }
 {
     let mut head = [0; 1024];
-    let length = response_head(201, None, Some(0), false, &mut head);
+    let length = response_head(201, None, Some(0), closes, &mut head);
     send(output, &head[..length], &[])
 }
 
-/// Answers a GET with what is stored.
-pub(crate) fn found<K: Sink>(entry: &StoredAsset, output: &mut K) -> Result<(), Unsaid>
-    ensures sent { Sent (K.taken output.old) (K.taken output.new) (head_of 200 (Some entry.now.asset.content_type) (Some entry.now.asset.size) false ++ entry.now.bytes.items) result }
+/// Answers a DELETE of what was kept.
+pub(crate) fn gone<K: Sink>(output: &mut K, closes: bool) -> Result<(), Unsaid>
+    ensures sent { Sent (K.taken output.old) (K.taken output.new) (head_of 204 None None closes) result }
+    ensures cause { HasSinkCause (K.faults output.old) (K.faults output.new) result }
+{
+    let mut head = [0; 1024];
+    let length = response_head(204, None, None, closes, &mut head);
+    send(output, &head[..length], &[])
+}
+
+/// Answers an upload that waits for it before it sends its content.
+pub(crate) fn go_on<K: Sink>(output: &mut K) -> Result<(), Unsaid>
+    ensures sent { Sent (K.taken output.old) (K.taken output.new) (head_of 100 None None false) result }
+    ensures cause { HasSinkCause (K.faults output.old) (K.faults output.new) result }
+{
+    let mut head = [0; 1024];
+    let length = response_head(100, None, None, false, &mut head);
+    send(output, &head[..length], &[])
+}
+
+/// Answers a GET with what is stored, and a HEAD with its head alone.
+pub(crate) fn found<K: Sink>(
+    entry: &StoredAsset,
+    output: &mut K,
+    bare: bool,
+    closes: bool,
+) -> Result<(), Unsaid>
+    ensures sent { Sent (K.taken output.old) (K.taken output.new) (head_of 200 (Some entry.now.asset.content_type) (Some entry.now.asset.size) closes ++ (if bare then [] else entry.now.bytes.items)) result }
     ensures cause { HasSinkCause (K.faults output.old) (K.faults output.new) result }
 {
     let mut head = [0; 1024];
     let content_type = Some(&entry.asset.content_type);
-    let length = response_head(200, content_type, Some(entry.asset.size), false, &mut head);
-    send(output, &head[..length], &entry.bytes)
+    let length = response_head(200, content_type, Some(entry.asset.size), closes, &mut head);
+    let body: &[u8] = if bare { &[] } else { &entry.bytes };
+    send(output, &head[..length], body)
 }

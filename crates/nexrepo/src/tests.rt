@@ -19,9 +19,37 @@ static GET_EMPTY: &str = "GET /repository/files/e HTTP/1.1\r\n\r\n";
 
 static GET_NONE: &str = "GET /repository/files/none HTTP/1.1\r\n\r\n";
 
-static DELETE: &str = "DELETE /repository/files/a HTTP/1.1\r\n\r\n";
+static DELETE_ABC: &str = "DELETE /repository/files/a/b.txt HTTP/1.1\r\n\r\n";
 
-static HEAD: &str = "HEAD /repository/files/a HTTP/1.1\r\n\r\n";
+static HEAD_ABC: &str = "HEAD /repository/files/a/b.txt HTTP/1.1\r\n\r\n";
+
+static HEAD_NONE: &str = "HEAD /repository/files/none HTTP/1.1\r\n\r\n";
+
+static CHUNKED_ABC: &str =
+    "PUT /repository/files/a/b.txt HTTP/1.1\r\nContent-Type: text/plain\r\nTransfer-Encoding: chunked\r\n\r\n2;x\r\nab\r\n1\r\nc\r\n0\r\nT: t\r\n\r\n";
+
+static WAITING_ABC: &str =
+    "PUT /repository/files/a/b.txt HTTP/1.1\r\nContent-Type: text/plain\r\nExpect: 100-continue\r\nContent-Length: 3\r\n\r\nabc";
+
+static BAD_CHUNK: &str =
+    "PUT /repository/files/a HTTP/1.1\r\nExpect: 100-continue\r\nTransfer-Encoding: chunked\r\n\r\n1\r\na\r\nx\r\n";
+
+static CLOSING_ABC: &str = "GET /repository/files/a/b.txt HTTP/1.1\r\nConnection: a, Close\r\n\r\n";
+
+static OLD_NONE: &str = "GET /repository/files/none HTTP/1.0\r\n\r\n";
+
+static BOTH: &str =
+    "PUT /repository/files/a HTTP/1.1\r\nContent-Length: 3\r\nTransfer-Encoding: chunked\r\n\r\n3\r\nabc\r\n0\r\n\r\n";
+
+static POST: &str = "POST /repository/files/a HTTP/1.1\r\n\r\n";
+
+static PUT_ELSEWHERE: &str =
+    "PUT /repository/other/a HTTP/1.1\r\nExpect: 100-continue\r\nContent-Length: 3\r\n\r\nabc";
+
+static PUT_NOTHING_ELSEWHERE: &str =
+    "PUT /repository/other/a HTTP/1.1\r\nContent-Length: 0\r\n\r\n";
+
+static DELETE_ELSEWHERE: &str = "DELETE /repository/other/a HTTP/1.1\r\n\r\n";
 
 static NO_HEAD: &str = "GET  / HTTP/1.1\r\n\r\n";
 
@@ -39,11 +67,36 @@ static NOT_FOUND: &str =
 static STAMPS_USED: &str =
     "HTTP/1.1 409 Conflict\r\nContent-Type: text/plain\r\nContent-Length: 11\r\n\r\nStampsUsed\n";
 
-static NOT_BUILT: &str =
-    "HTTP/1.1 501 Not Implemented\r\nContent-Type: text/plain\r\nContent-Length: 9\r\nConnection: close\r\n\r\nNotBuilt\n";
+static CONTINUE: &str = "HTTP/1.1 100 Continue\r\n\r\n";
 
-static NOT_BUILT_BARE: &str =
-    "HTTP/1.1 501 Not Implemented\r\nContent-Type: text/plain\r\nContent-Length: 9\r\nConnection: close\r\n\r\n";
+static GONE: &str = "HTTP/1.1 204 No Content\r\n\r\n";
+
+static FOUND_ABC_BARE: &str =
+    "HTTP/1.1 200 OK\r\nContent-Type: text/plain\r\nContent-Length: 3\r\n\r\n";
+
+static NOT_FOUND_BARE: &str =
+    "HTTP/1.1 404 Not Found\r\nContent-Type: text/plain\r\nContent-Length: 9\r\n\r\n";
+
+static FOUND_ABC_LAST: &str =
+    "HTTP/1.1 200 OK\r\nContent-Type: text/plain\r\nContent-Length: 3\r\nConnection: close\r\n\r\nabc";
+
+static NOT_FOUND_LAST: &str =
+    "HTTP/1.1 404 Not Found\r\nContent-Type: text/plain\r\nContent-Length: 9\r\nConnection: close\r\n\r\nNotFound\n";
+
+static BAD_CHUNK_LAST: &str =
+    "HTTP/1.1 400 Bad Request\r\nContent-Type: text/plain\r\nContent-Length: 11\r\nConnection: close\r\n\r\nBadChunk 6\n";
+
+static BOTH_FRAMINGS: &str =
+    "HTTP/1.1 400 Bad Request\r\nContent-Type: text/plain\r\nContent-Length: 13\r\nConnection: close\r\n\r\nBothFramings\n";
+
+static BAD_METHOD: &str =
+    "HTTP/1.1 405 Method Not Allowed\r\nContent-Type: text/plain\r\nContent-Length: 10\r\nAllow: GET, HEAD, PUT, DELETE\r\nConnection: close\r\n\r\nBadMethod\n";
+
+static UNKNOWN_REPO: &str =
+    "HTTP/1.1 404 Not Found\r\nContent-Type: text/plain\r\nContent-Length: 12\r\n\r\nUnknownRepo\n";
+
+static UNKNOWN_REPO_LAST: &str =
+    "HTTP/1.1 404 Not Found\r\nContent-Type: text/plain\r\nContent-Length: 12\r\nConnection: close\r\n\r\nUnknownRepo\n";
 
 static BAD_HEAD: &str =
     "HTTP/1.1 400 Bad Request\r\nContent-Type: text/plain\r\nContent-Length: 8\r\nConnection: close\r\n\r\nBadHead\n";
@@ -129,7 +182,7 @@ fn check(
 #[test]
 fn worked_sessions(rt: HostRuntime) -> Result<(), Fail> {
     let alloc = rt.alloc();
-    let rows: [(&[&str], &[&str], Status); 12] = [
+    let rows: [(&[&str], &[&str], Status); 10] = [
         (&[], &[], Status::Ok),
         (&["\r\n\n"], &[], Status::Ok),
         (&[PUT_ABC], &[CREATED], Status::Ok),
@@ -140,8 +193,6 @@ fn worked_sessions(rt: HostRuntime) -> Result<(), Fail> {
             Status::Ok,
         ),
         (&[GET_NONE, PUT_ABC], &[NOT_FOUND, CREATED], Status::Ok),
-        (&[DELETE, PUT_ABC], &[NOT_BUILT], Status::Ok),
-        (&[HEAD], &[NOT_BUILT_BARE], Status::Ok),
         (
             &[PUT_ABC, NO_HEAD, GET_ABC],
             &[CREATED, BAD_HEAD],
@@ -152,6 +203,68 @@ fn worked_sessions(rt: HostRuntime) -> Result<(), Fail> {
         (
             &["PUT /repository/files/a HTTP/1.1\r\nContent-Length: 3\r\n\r\nab"],
             &[],
+            Status::Cut,
+        ),
+    ];
+    for (input, output, status) in rows {
+        check(&rt, alloc, NOW, input, (status, output))?;
+    }
+    Ok(())
+}
+
+#[test]
+fn the_whole_profile(rt: HostRuntime) -> Result<(), Fail> {
+    let alloc = rt.alloc();
+    let rows: [(&[&str], &[&str], Status); 13] = [
+        (
+            &[CHUNKED_ABC, HEAD_ABC, HEAD_NONE, GET_ABC],
+            &[CREATED, FOUND_ABC_BARE, NOT_FOUND_BARE, FOUND_ABC],
+            Status::Ok,
+        ),
+        (
+            &[PUT_ABC, DELETE_ABC, GET_ABC],
+            &[CREATED, GONE, NOT_FOUND],
+            Status::Ok,
+        ),
+        (&[DELETE_ABC, PUT_ABC], &[NOT_FOUND, CREATED], Status::Ok),
+        (
+            &[WAITING_ABC, GET_ABC],
+            &[CONTINUE, CREATED, FOUND_ABC],
+            Status::Ok,
+        ),
+        (
+            &[BAD_CHUNK, GET_ABC],
+            &[CONTINUE, BAD_CHUNK_LAST],
+            Status::Ok,
+        ),
+        (
+            &[PUT_ABC, CLOSING_ABC, GET_ABC],
+            &[CREATED, FOUND_ABC_LAST],
+            Status::Ok,
+        ),
+        (&[OLD_NONE, GET_ABC], &[NOT_FOUND_LAST], Status::Ok),
+        (&[BOTH, GET_ABC], &[BOTH_FRAMINGS], Status::Ok),
+        (&[POST, GET_ABC], &[BAD_METHOD], Status::Ok),
+        (
+            &[DELETE_ELSEWHERE, PUT_NOTHING_ELSEWHERE, GET_NONE],
+            &[UNKNOWN_REPO, UNKNOWN_REPO, NOT_FOUND],
+            Status::Ok,
+        ),
+        (
+            &[PUT_ABC, PUT_ELSEWHERE, GET_ABC],
+            &[CREATED, UNKNOWN_REPO_LAST],
+            Status::Ok,
+        ),
+        (
+            &["PUT /repository/files/a HTTP/1.1\r\nTransfer-Encoding: chunked\r\n\r\n3\r\nab"],
+            &[],
+            Status::Cut,
+        ),
+        (
+            &[
+                "PUT /repository/files/a HTTP/1.1\r\nExpect: 100-Continue\r\nContent-Length: 3\r\n\r\nab",
+            ],
+            &[CONTINUE],
             Status::Cut,
         ),
     ];

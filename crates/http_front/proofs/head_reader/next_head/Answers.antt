@@ -1,11 +1,11 @@
 use Rattle.std.proofs.Common.{◌≡◌, ℕ, ◌<◌, IsTrue, ◌↔◌, inl, inr, List, [], ◌∷◌, ◌++◌, length, take, drop, refl, sym, ap, ◌∙◌, subst, arith, length-append}
 use Rattle.std.proofs.lemmas.List.{take-append-drop, length-take, length-take-le, take-append-le, take_all}
-use Rattle.http_wire.specs.Cut.{drop_blank, HasNoHead}
+use Rattle.http_heads.specs.Cut.{drop_blank, HasNoHead}
 use Rattle.http_front.specs.Buffers.{Pending}
 use Rattle.http_front.specs.Fills.{Came}
 use Rattle.http_front.specs.Looks.{IsLook}
 use Rattle.http_front.specs.declared.look.Look.TheVariants as looks
-use Rattle.http_wire.specs.Requests.{Accepts, IsRefused}
+use Rattle.http_requests.specs.Heads.{Accepts, IsRefused}
 use Rattle.http_front.specs.Reading.{HasNoRequest}
 use Rattle.http_front.proofs.Comes.{unmoved, took, came_more, met_end, halted, within}
 use Rattle.http_front.proofs.Seeks.{Seeks, skipped, keeps_front, behind, all_behind, behind_all, no_request, some_request}
@@ -28,7 +28,7 @@ returns-in-Head-clause-head g c =
       taken = s.taken ++ take n w;
       some = longer s.taken (take n w) (omega (arith, front, here.0));
       moves = took _ _ _ _ _ s.taken (take n w) s.moves (sym (take-append-drop n w) ∙ ap (λ (l : List ℕ). take n w ++ l) (sym new)) (ap (λ (p : Pending). p.total) c.take.ensures);
-      built = here.2;
+      fits = here.2;
       accepts = λ rest. subst (λ (l : List ℕ). Accepts l c.in-Head.head rest) (sym (behind s.taken (take n w) rest s.blank (keeps_front w rest n c.skip_blank.ensures.skips.all here.0 here.1))) (here.3 rest);
     }
 

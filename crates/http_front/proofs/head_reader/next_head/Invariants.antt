@@ -1,6 +1,6 @@
 -- Only line ends were taken, and the bytes that were scanned hold no head.
 use Rattle.std.proofs.Common.{◌≤◌, ◌-◌, ◌^◌, length, take}
-use Rattle.http_wire.specs.Cut.{HasNoHead}
+use Rattle.http_heads.specs.Cut.{HasNoHead}
 use Rattle.http_front.proofs.Seeks.{Seeks}
 use Rattle.http_front.proofs.head_reader.next_head.Given as goal
 

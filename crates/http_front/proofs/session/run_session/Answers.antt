@@ -1,13 +1,15 @@
-use Rattle.std.proofs.Common.{◌≡◌, ℕ, zero, suc, ◌⊎◌, inl, inr, true, ◌+◌, ◌-◌, ◌*◌, ◌^◌, ◌<◌, ◌≤◌, List, [], ◌∷◌, ◌++◌, length, refl, sym, ap, ◌∙◌, subst, arith, length-append}
+use Rattle.std.proofs.Common.{◌≡◌, ℕ, zero, suc, ◌⊎◌, inl, inr, ◌+◌, ◌-◌, ◌*◌, ◌^◌, ◌<◌, ◌≤◌, List, [], ◌++◌, length, Ok, refl, sym, ap, ◌∙◌, subst, arith, append-nil, length-append}
+use Rattle.std.proofs.KnownBytes.{Consumes-nil}
 use Rattle.http_front.specs.Buffers.{Pending, input_limit}
-use Rattle.http_front.specs.Fills.{Halts}
-use Rattle.http_wire.specs.Requests as stream
-use Rattle.http_wire.specs.Requests.{body_len}
-use Rattle.http_front.specs.Reading.{Moves, TookHead, MetEnd, HasNoRequest, IsShort}
+use Rattle.http_front.specs.Reading.{Moves, TookHead, MetStop, HasNoRequest}
+use Rattle.http_front.specs.Replying.{Begins}
 use Rattle.http_front.specs.Sessions.{EndsAs}
+use Rattle.http_front.specs.declared.begun.Begun.{Begun}
 use Rattle.http_front.specs.declared.end.End.{End}
-use Rattle.http_front.proofs.Runs.{started, took_both, answered}
-use Rattle.http_front.proofs.Ends.{halt_said, input_ended, refused, unanswered, halt_later, end_later, short_items, ended, FallsShort}
+use Rattle.http_front.proofs.Runs.{started, took_both}
+use Rattle.http_front.proofs.Ends.{halt_said, input_ended, refused}
+use Rattle.http_front.proofs.Opened.{put_if_stopped}
+use Rattle.http_front.proofs.Middle.{wanted, begin_unsaid, begin_answered, begin_last, whole_answered, whole_closed, whole_unsaid, stopped, cut_ended, cut_halted}
 use Rattle.http_front.proofs.session.run_session.Goals as goal
 
 none_or : (n total : ℕ) → (0 < n → total ≤ input_limit) → (n ≡ 0) ⊎ (total ≤ input_limit)
@@ -52,48 +54,110 @@ returns-in-Halt-clause-said g c = λ says stands.
     (halt_said _ says _ _ _ _ _ _ c.requests.buffer (HasNoRequest c.requests.buffer) _ _ c.in-Halt.halt r
     (λ came h. ([], h.0, h.1, g.met.R.Replies.silent c.requests.replies r.next r.stands)) c.in-Halt.ensures.head)
 
-pub returns-in-Cut-clause-said : goal.returns-in-Cut-clause-said
-returns-in-Cut-clause-said g c = λ says stands.
-    let r = c.requests.invariant.runs says stands in
+pub requests-smaller-in-Ok-Answered : goal.requests-smaller-in-Ok-Answered
+requests-smaller-in-Ok-Answered g c =
     let t : TookHead (g.S.Source.left c.requests.input) (g.S.Source.left c.next_head.new.input) c.requests.buffer c.next_head.new.buffer c.in-Head.head = c.in-Head.ensures.head in
-    let m : MetEnd (g.S.Source.left c.next_head.new.input) (g.S.Source.left c.read_content.new.input) (g.S.Source.ended c.read_content.new.input) c.next_head.new.buffer.total (IsShort c.next_head.new.buffer (body_len c.in-Head.head.framing))
-    = subst (λ (n : ℕ). MetEnd (g.S.Source.left c.next_head.new.input) (g.S.Source.left c.read_content.new.input) (g.S.Source.ended c.read_content.new.input) c.next_head.new.buffer.total (IsShort c.next_head.new.buffer n)) c.length_of-size.ensures c.in-Cut.ensures.content in
-    let e = end_later _ _ _ _ c.requests.buffer c.next_head.new.buffer c.in-Head.head t m in
-    ended _ says _ _ _ _ _ _ c.requests.buffer (stream.cut c.in-Head.head e.0 ∷ []) true r (c.cut.ensures r.next r.stands e.0 e.1) e.2
+    smaller c.requests.buffer c.next_head.new.buffer c.next_head.new.buffer t.moves.came t.taken [] [] t.moves.parts t.moves.count t.moves.within t.some (append-nil c.next_head.new.buffer.waiting) (omega arith) (λ lt. absurd (omega (arith, lt)))
 
-pub returns-in-Halt-read_content-clause-said : goal.returns-in-Halt-read_content-clause-said
-returns-in-Halt-read_content-clause-said g c = λ says stands.
+pub requests-preserved-in-Ok-Answered : goal.requests-preserved-in-Ok-Answered
+requests-preserved-in-Ok-Answered g c =
+    let t : TookHead (g.S.Source.left c.requests.input) (g.S.Source.left c.next_head.new.input) c.requests.buffer c.next_head.new.buffer c.in-Head.head = c.in-Head.ensures.head in
+    record {
+      runs = λ says stands.
+          let r = c.requests.invariant.runs says stands in
+          begin_answered _ (g.R.Replies.Stands c.begin.new.self) (g.R.Replies.Waits c.begin.new.self c.in-Head.head) says _ _ _ _ _ _ c.requests.buffer c.next_head.new.buffer c.in-Head.head r t
+          (subst (λ (x : Begun). Begins r.next (g.R.Replies.Stands c.begin.new.self) (g.R.Replies.Waits c.begin.new.self c.in-Head.head) c.in-Head.head (g.K.Sink.taken c.requests.output) (g.K.Sink.taken c.begin.new.output) (Ok x)) c.in-Ok-Answered.field-0-is (c.in-Ok-Answered.ensures.said r.next r.stands));
+      reads = omega (arith, c.requests.invariant.reads, c.next_head.ensures.later);
+      writes = omega (arith, c.requests.invariant.writes, c.in-Ok-Answered.ensures.cause);
+    }
+
+pub returns-in-Ok-Last-clause-said : goal.returns-in-Ok-Last-clause-said
+returns-in-Ok-Last-clause-said g c = λ says stands.
     let r = c.requests.invariant.runs says stands in
     let t : TookHead (g.S.Source.left c.requests.input) (g.S.Source.left c.next_head.new.input) c.requests.buffer c.next_head.new.buffer c.in-Head.head = c.in-Head.ensures.head in
-    let h : Halts (IsShort c.next_head.new.buffer (body_len c.in-Head.head.framing)) (g.S.Source.left c.next_head.new.input) (g.S.Source.left c.read_content.new.input) c.next_head.new.buffer.total (g.S.Source.faults c.next_head.new.input) (g.S.Source.faults c.read_content.new.input) c.in-Halt-read_content.halt
-    = subst (λ (n : ℕ). Halts (IsShort c.next_head.new.buffer n) (g.S.Source.left c.next_head.new.input) (g.S.Source.left c.read_content.new.input) c.next_head.new.buffer.total (g.S.Source.faults c.next_head.new.input) (g.S.Source.faults c.read_content.new.input) c.in-Halt-read_content.halt) c.length_of-size.ensures c.in-Halt-read_content.ensures.content in
-    subst (λ (e : End). EndsAs e says (g.S.Source.left c.args.input.now) (g.S.Source.left c.read_content.new.input) (g.S.Source.ended c.read_content.new.input) (g.K.Sink.taken c.args.output.now) (g.K.Sink.taken c.requests.output)) (sym c.of_halt-in-Halt-read_content.ensures)
-    (halt_said _ says _ _ _ _ _ _ c.requests.buffer (FallsShort t.moves.came c.next_head.new.buffer (body_len c.in-Head.head.framing)) _ _ c.in-Halt-read_content.halt r
-    (λ came s.
-    let y = short_items _ _ c.requests.buffer c.next_head.new.buffer c.in-Head.head came t s in
-    (stream.cut c.in-Head.head y.0 ∷ [], true, y.2, c.cut.ensures r.next r.stands y.0 y.1))
-    (halt_later _ _ _ c.requests.buffer c.next_head.new.buffer c.in-Head.head (body_len c.in-Head.head.framing) _ _ c.in-Halt-read_content.halt t h))
+    inr (begin_last _ (g.R.Replies.Stands c.begin.new.self) (g.R.Replies.Waits c.begin.new.self c.in-Head.head) says _ _ _ _ _ _ c.requests.buffer c.next_head.new.buffer c.in-Head.head r t
+    (subst (λ (x : Begun). Begins r.next (g.R.Replies.Stands c.begin.new.self) (g.R.Replies.Waits c.begin.new.self c.in-Head.head) c.in-Head.head (g.K.Sink.taken c.requests.output) (g.K.Sink.taken c.begin.new.output) (Ok x)) c.in-Ok-Last.field-0-is (c.in-Ok-Last.ensures.said r.next r.stands)))
 
 pub returns-in-Err-clause-said : goal.returns-in-Err-clause-said
 returns-in-Err-clause-said g c = λ says stands.
     let r = c.requests.invariant.runs says stands in
     let t : TookHead (g.S.Source.left c.requests.input) (g.S.Source.left c.next_head.new.input) c.requests.buffer c.next_head.new.buffer c.in-Head.head = c.in-Head.ensures.head in
-    let k = took_both _ _ _ c.requests.buffer c.next_head.new.buffer c.read_content.new.buffer c.in-Head.head c.in-Whole.content.items t c.in-Whole.ensures.content.1 (c.in-Whole.ensures.content.0 ∙ c.length_of-size.ensures) in
-    subst (λ (e : End). EndsAs e says (g.S.Source.left c.args.input.now) (g.S.Source.left c.read_content.new.input) (g.S.Source.ended c.read_content.new.input) (g.K.Sink.taken c.args.output.now) (g.K.Sink.taken c.whole.new.output)) (sym c.of_unsaid.ensures)
-    (unanswered _ (g.R.Replies.Stands c.whole.new.self) says _ _ _ _ _ _ _ c.requests.buffer c.read_content.new.buffer c.in-Head.head c.in-Whole.content.items c.in-Err.unsaid r k (c.in-Err.ensures.said r.next r.stands))
+    subst (λ (e : End). EndsAs e says (g.S.Source.left c.args.input.now) (g.S.Source.left c.next_head.new.input) (g.S.Source.ended c.next_head.new.input) (g.K.Sink.taken c.args.output.now) (g.K.Sink.taken c.begin.new.output)) (sym c.of_unsaid.ensures)
+    (begin_unsaid _ (g.R.Replies.Stands c.begin.new.self) (g.R.Replies.Waits c.begin.new.self c.in-Head.head) says _ _ _ _ _ _ _ c.requests.buffer c.next_head.new.buffer c.in-Head.head c.in-Err.unsaid r t (Consumes-nil _)
+    (c.in-Err.ensures.said r.next r.stands))
+
+pub stopped-requires : goal.stopped-requires
+stopped-requires g c =
+    let t : TookHead (g.S.Source.left c.requests.input) (g.S.Source.left c.next_head.new.input) c.requests.buffer c.next_head.new.buffer c.in-Head.head = c.in-Head.ensures.head in
+    let m : MetStop (g.S.Source.left c.next_head.new.input) (g.S.Source.left c.read_content.new.input) c.next_head.new.buffer c.in-Head.head.framing c.in-Stopped.why = c.in-Stopped.ensures.content in
+    put_if_stopped c.in-Head.head _ m.1 c.in-Stopped.why t.fits (m.4 [])
+
+pub returns-in-Stopped-clause-said : goal.returns-in-Stopped-clause-said
+returns-in-Stopped-clause-said g c = λ says stands.
+    let r = c.requests.invariant.runs says stands in
+    let t : TookHead (g.S.Source.left c.requests.input) (g.S.Source.left c.next_head.new.input) c.requests.buffer c.next_head.new.buffer c.in-Head.head = c.in-Head.ensures.head in
+    let n = wanted (g.R.Replies.Stands c.begin.new.self) (g.R.Replies.Waits c.begin.new.self c.in-Head.head) r.next c.in-Head.head _ _
+    (subst (λ (x : Begun). Begins r.next (g.R.Replies.Stands c.begin.new.self) (g.R.Replies.Waits c.begin.new.self c.in-Head.head) c.in-Head.head (g.K.Sink.taken c.requests.output) (g.K.Sink.taken c.begin.new.output) (Ok x)) c.in-Ok-Wanted.field-0-is (c.in-Ok-Wanted.ensures.said r.next r.stands)) in
+    subst (λ (e : End). EndsAs e says (g.S.Source.left c.args.input.now) (g.S.Source.left c.read_content.new.input) (g.S.Source.ended c.read_content.new.input) (g.K.Sink.taken c.args.output.now) (g.K.Sink.taken c.stopped.new.output)) (sym c.of_refusal-in-Stopped.ensures)
+    (stopped _ (g.R.Replies.Waits c.begin.new.self c.in-Head.head) says _ _ _ _ _ _ _ _ _ c.requests.buffer c.next_head.new.buffer c.in-Head.head c.in-Stopped.why c.stopped.result r t n c.in-Stopped.ensures.content
+    (c.stopped.ensures.said n.next n.waits))
+
+pub returns-in-Cut-clause-said : goal.returns-in-Cut-clause-said
+returns-in-Cut-clause-said g c = λ says stands.
+    let r = c.requests.invariant.runs says stands in
+    let t : TookHead (g.S.Source.left c.requests.input) (g.S.Source.left c.next_head.new.input) c.requests.buffer c.next_head.new.buffer c.in-Head.head = c.in-Head.ensures.head in
+    let n = wanted (g.R.Replies.Stands c.begin.new.self) (g.R.Replies.Waits c.begin.new.self c.in-Head.head) r.next c.in-Head.head _ _
+    (subst (λ (x : Begun). Begins r.next (g.R.Replies.Stands c.begin.new.self) (g.R.Replies.Waits c.begin.new.self c.in-Head.head) c.in-Head.head (g.K.Sink.taken c.requests.output) (g.K.Sink.taken c.begin.new.output) (Ok x)) c.in-Ok-Wanted.field-0-is (c.in-Ok-Wanted.ensures.said r.next r.stands)) in
+    cut_ended _ (g.R.Replies.Waits c.begin.new.self c.in-Head.head) says _ _ _ _ _ _ _ _ c.requests.buffer c.next_head.new.buffer c.in-Head.head r t n (c.cut.ensures n.next n.waits) c.in-Cut.ensures.content
+
+pub returns-in-Halt-read_content-clause-said : goal.returns-in-Halt-read_content-clause-said
+returns-in-Halt-read_content-clause-said g c = λ says stands.
+    let r = c.requests.invariant.runs says stands in
+    let t : TookHead (g.S.Source.left c.requests.input) (g.S.Source.left c.next_head.new.input) c.requests.buffer c.next_head.new.buffer c.in-Head.head = c.in-Head.ensures.head in
+    let n = wanted (g.R.Replies.Stands c.begin.new.self) (g.R.Replies.Waits c.begin.new.self c.in-Head.head) r.next c.in-Head.head _ _
+    (subst (λ (x : Begun). Begins r.next (g.R.Replies.Stands c.begin.new.self) (g.R.Replies.Waits c.begin.new.self c.in-Head.head) c.in-Head.head (g.K.Sink.taken c.requests.output) (g.K.Sink.taken c.begin.new.output) (Ok x)) c.in-Ok-Wanted.field-0-is (c.in-Ok-Wanted.ensures.said r.next r.stands)) in
+    subst (λ (e : End). EndsAs e says (g.S.Source.left c.args.input.now) (g.S.Source.left c.read_content.new.input) (g.S.Source.ended c.read_content.new.input) (g.K.Sink.taken c.args.output.now) (g.K.Sink.taken c.begin.new.output)) (sym c.of_halt-in-Halt-read_content.ensures)
+    (cut_halted _ (g.R.Replies.Waits c.begin.new.self c.in-Head.head) says _ _ _ _ _ _ _ _ c.requests.buffer c.next_head.new.buffer c.in-Head.head _ _ c.in-Halt-read_content.halt r t n
+    (c.cut.ensures n.next n.waits) c.in-Halt-read_content.ensures.content)
+
+pub returns-in-Err-whole-clause-said : goal.returns-in-Err-whole-clause-said
+returns-in-Err-whole-clause-said g c = λ says stands.
+    let r = c.requests.invariant.runs says stands in
+    let t : TookHead (g.S.Source.left c.requests.input) (g.S.Source.left c.next_head.new.input) c.requests.buffer c.next_head.new.buffer c.in-Head.head = c.in-Head.ensures.head in
+    let n = wanted (g.R.Replies.Stands c.begin.new.self) (g.R.Replies.Waits c.begin.new.self c.in-Head.head) r.next c.in-Head.head _ _
+    (subst (λ (x : Begun). Begins r.next (g.R.Replies.Stands c.begin.new.self) (g.R.Replies.Waits c.begin.new.self c.in-Head.head) c.in-Head.head (g.K.Sink.taken c.requests.output) (g.K.Sink.taken c.begin.new.output) (Ok x)) c.in-Ok-Wanted.field-0-is (c.in-Ok-Wanted.ensures.said r.next r.stands)) in
+    let k = took_both _ _ _ c.requests.buffer c.next_head.new.buffer c.read_content.new.buffer c.in-Head.head c.in-Whole.content.items t c.in-Whole.ensures.content in
+    subst (λ (e : End). EndsAs e says (g.S.Source.left c.args.input.now) (g.S.Source.left c.read_content.new.input) (g.S.Source.ended c.read_content.new.input) (g.K.Sink.taken c.args.output.now) (g.K.Sink.taken c.whole.new.output)) (sym c.of_unsaid-in-Err-whole.ensures)
+    (whole_unsaid _ (g.R.Replies.Waits c.begin.new.self c.in-Head.head) (g.R.Replies.Stands c.whole.new.self) says _ _ _ _ _ _ _ _ c.requests.buffer c.read_content.new.buffer c.in-Head.head c.in-Whole.content.items c.in-Err-whole.unsaid r k n
+    (c.in-Err-whole.ensures.said n.next n.waits))
+
+pub returns-then-closes-clause-said : goal.returns-then-closes-clause-said
+returns-then-closes-clause-said g c = λ says stands.
+    let r = c.requests.invariant.runs says stands in
+    let t : TookHead (g.S.Source.left c.requests.input) (g.S.Source.left c.next_head.new.input) c.requests.buffer c.next_head.new.buffer c.in-Head.head = c.in-Head.ensures.head in
+    let n = wanted (g.R.Replies.Stands c.begin.new.self) (g.R.Replies.Waits c.begin.new.self c.in-Head.head) r.next c.in-Head.head _ _
+    (subst (λ (x : Begun). Begins r.next (g.R.Replies.Stands c.begin.new.self) (g.R.Replies.Waits c.begin.new.self c.in-Head.head) c.in-Head.head (g.K.Sink.taken c.requests.output) (g.K.Sink.taken c.begin.new.output) (Ok x)) c.in-Ok-Wanted.field-0-is (c.in-Ok-Wanted.ensures.said r.next r.stands)) in
+    let k = took_both _ _ _ c.requests.buffer c.next_head.new.buffer c.read_content.new.buffer c.in-Head.head c.in-Whole.content.items t c.in-Whole.ensures.content in
+    whole_closed _ (g.R.Replies.Waits c.begin.new.self c.in-Head.head) (g.R.Replies.Stands c.whole.new.self) says _ _ _ _ _ _ _ (g.S.Source.ended c.read_content.new.input) c.requests.buffer c.read_content.new.buffer c.in-Head.head c.in-Whole.content.items r k n c.if-closes.true
+    (c.in_default.ensures.said n.next n.waits)
 
 pub requests-smaller : goal.requests-smaller
 requests-smaller g c =
     let t : TookHead (g.S.Source.left c.requests.input) (g.S.Source.left c.next_head.new.input) c.requests.buffer c.next_head.new.buffer c.in-Head.head = c.in-Head.ensures.head in
-    let m : Moves (g.S.Source.left c.next_head.new.input) (g.S.Source.left c.read_content.new.input) c.next_head.new.buffer c.read_content.new.buffer c.in-Whole.content.items = c.in-Whole.ensures.content.1 in
-    smaller c.requests.buffer c.next_head.new.buffer c.read_content.new.buffer t.moves.came t.taken m.came c.in-Whole.content.items t.moves.parts t.moves.count t.moves.within t.some m.parts m.count m.within
+    let m : Moves (g.S.Source.left c.next_head.new.input) (g.S.Source.left c.read_content.new.input) c.next_head.new.buffer c.read_content.new.buffer c.in-Whole.ensures.content.0 = c.in-Whole.ensures.content.1 in
+    smaller c.requests.buffer c.next_head.new.buffer c.read_content.new.buffer t.moves.came t.taken m.came c.in-Whole.ensures.content.0 t.moves.parts t.moves.count t.moves.within t.some m.parts m.count m.within
 
 pub requests-preserved : goal.requests-preserved
 requests-preserved g c =
     let t : TookHead (g.S.Source.left c.requests.input) (g.S.Source.left c.next_head.new.input) c.requests.buffer c.next_head.new.buffer c.in-Head.head = c.in-Head.ensures.head in
-    let k = took_both _ _ _ c.requests.buffer c.next_head.new.buffer c.read_content.new.buffer c.in-Head.head c.in-Whole.content.items t c.in-Whole.ensures.content.1 (c.in-Whole.ensures.content.0 ∙ c.length_of-size.ensures) in
+    let k = took_both _ _ _ c.requests.buffer c.next_head.new.buffer c.read_content.new.buffer c.in-Head.head c.in-Whole.content.items t c.in-Whole.ensures.content in
     record {
-      runs = λ says stands. answered _ _ says _ _ _ _ _ _ c.requests.buffer c.read_content.new.buffer c.in-Head.head c.in-Whole.content.items (c.requests.invariant.runs says stands) k (c.in_default.ensures.said (c.requests.invariant.runs says stands).next (c.requests.invariant.runs says stands).stands);
+      runs = λ says stands.
+          let r = c.requests.invariant.runs says stands in
+          let n = wanted (g.R.Replies.Stands c.begin.new.self) (g.R.Replies.Waits c.begin.new.self c.in-Head.head) r.next c.in-Head.head _ _
+          (subst (λ (x : Begun). Begins r.next (g.R.Replies.Stands c.begin.new.self) (g.R.Replies.Waits c.begin.new.self c.in-Head.head) c.in-Head.head (g.K.Sink.taken c.requests.output) (g.K.Sink.taken c.begin.new.output) (Ok x)) c.in-Ok-Wanted.field-0-is (c.in-Ok-Wanted.ensures.said r.next r.stands)) in
+          whole_answered _ (g.R.Replies.Waits c.begin.new.self c.in-Head.head) (g.R.Replies.Stands c.whole.new.self) says _ _ _ _ _ _ _ c.requests.buffer c.read_content.new.buffer c.in-Head.head c.in-Whole.content.items r k n c.if-closes.false
+          (c.in_default.ensures.said n.next n.waits);
       reads = omega (arith, c.requests.invariant.reads, c.next_head.ensures.later, c.read_content.ensures.later);
-      writes = omega (arith, c.requests.invariant.writes, c.in_default.ensures.cause);
+      writes = omega (arith, c.requests.invariant.writes, c.in-Ok-Wanted.ensures.cause, c.in_default.ensures.cause);
     }

@@ -1,8 +1,15 @@
-use Rattle.nexrepo.proofs.AnsweringLemmas.{found_said, missing_said}
+use Rattle.std.proofs.Common.{sym, ◌∙◌}
+use Rattle.nexrepo.proofs.AnsweringLemmas.{unknown_get, found_said, missing_said}
 use Rattle.nexrepo.proofs.answering.answer_get.Goals as goal
 
+pub returns-then-not-in_files-clause-sent : goal.returns-then-not-in_files-clause-sent
+returns-then-not-in_files-clause-sent g c =
+    unknown_get c.args.closes c.args.memory.now c.args.key.now c.args.moment _ _ c.refuse.result (sym c.in_files.ensures ∙ c.if-not-in_files.true) c.refuse.ensures.sent
+
 pub returns-in-Some-clause-sent : goal.returns-in-Some-clause-sent
-returns-in-Some-clause-sent g c = found_said c.args.memory.now c.touch.new.self c.args.key.now c.args.moment c.in-Some.entry.now _ _ c.found.result c.touch.ensures c.in-Some.ensures c.found.ensures.sent
+returns-in-Some-clause-sent g c =
+    found_said c.args.closes c.args.memory.now c.touch.new.self c.args.key.now c.args.moment c.in-Some.entry.now _ _ c.found.result c.touch.ensures c.in-Some.ensures c.found.ensures.sent
 
 pub returns-in-None-clause-sent : goal.returns-in-None-clause-sent
-returns-in-None-clause-sent g c = missing_said c.args.memory.now c.touch.new.self c.args.key.now c.args.moment _ _ c.refuse.result c.touch.ensures c.in-None.ensures c.refuse.ensures.sent
+returns-in-None-clause-sent g c =
+    missing_said c.args.closes c.args.memory.now c.touch.new.self c.args.key.now c.args.moment _ _ c.refuse-in-None.result c.touch.ensures c.in-None.ensures c.refuse-in-None.ensures.sent

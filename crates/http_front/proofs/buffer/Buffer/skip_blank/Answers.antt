@@ -1,5 +1,5 @@
 use Rattle.std.proofs.Common.{◌≡◌, ℕ, List, ◌++◌, drop, sym, ap, subst, ◌∙◌}
-use Rattle.http_wire.specs.Cut.{drop_blank}
+use Rattle.http_heads.specs.Cut.{drop_blank}
 use Rattle.http_front.specs.Buffers.{Pending}
 use Rattle.http_front.proofs.Blanks.{blank_front, splits, is_blank, drop_blank-drop_blank}
 use Rattle.http_front.proofs.buffer.Buffer.skip_blank.Goals as goal

@@ -1,6 +1,6 @@
 use Rattle.std.proofs.Common.{true, [], refl, subst, ◌∙◌}
-use Rattle.http_wire.specs.Requests as stream
-use Rattle.http_wire.specs.Response.{Why, refused_with}
+use Rattle.http_requests.specs.Requests as stream
+use Rattle.http_heads.specs.Response.{Why, refused_with}
 use Rattle.http_front.specs.Replying.{IsSilent}
 use Rattle.nexrepo.specs.Sending.{Sent}
 use Rattle.nexrepo.proofs.StandingLemmas.{refused_said}
