@@ -8,3 +8,4 @@ pub mod Today
 pub mod Declared
 pub mod Sound
 pub mod Parted
+pub mod Model

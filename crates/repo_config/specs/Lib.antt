@@ -9,3 +9,4 @@ pub mod Reading
 pub mod Found
 pub mod Told
 pub mod Laws
+pub mod Model

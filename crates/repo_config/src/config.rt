@@ -1,6 +1,7 @@
 ghost use Rattle.std.specs.Prelude.{◌≡◌, IfOk, IfErr};
 ghost use Rattle.std.specs.Option.{option_copied};
 ghost use Rattle.repo_config.specs.Settings.{repo_at, group_at, layout_at};
+ghost use Rattle.repo_config.specs.Model.{takes};
 
 use crate::config_err::ConfigErr;
 use crate::group::Group;
@@ -63,6 +64,19 @@ impl Config {
         match self.stores.get(name) {
             Some(store) => Some(&store.group),
             None => None,
+        }
+    }
+
+    /// Whether a repository may write to that store.
+    pub fn takes(&self, repo: &Repo, store: &StoreName) -> bool
+        ensures { result ≡ takes self.now repo.now store.now }
+    {
+        let Some(name) = &repo.store else {
+            return false;
+        };
+        match self.group(name) {
+            Some(group) => group.takes(store),
+            None => false,
         }
     }
 

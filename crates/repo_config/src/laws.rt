@@ -1,6 +1,7 @@
-//! Laws of the definitions: the first three functions do nothing, and their contracts are the laws.
+//! Laws of the definitions: the first four functions do nothing, and their contracts are the laws.
 ghost use Rattle.std.specs.Prelude.{◌≡◌};
 ghost use Rattle.repo_config.specs.Laws.{SomeMeaning, NeverBoth, OneConfiguration, OneRefusal, AllSound, StoreKeysParted, RepoKeysParted};
+ghost use Rattle.repo_config.specs.Model.{ReadsRepos, ReadsGroups, WritesToOne};
 
 use crate::config::Config;
 
@@ -22,6 +23,15 @@ pub fn keys_are_parted()
 /// takes 1 to 1,000,000 entries, and there are at most 64 file stores.
 pub fn settings_are_sound()
     ensures { AllSound }
+{}
+
+/// The step of the one-thread repository finds in a configuration just the repositories and the
+/// groups that [`Config::repo`] and [`Config::group`] answer. In every configuration that was read a
+/// repository writes to its store, and to no other.
+pub fn the_step_reads_the_same()
+    ensures repos { ReadsRepos }
+    ensures groups { ReadsGroups }
+    ensures one { WritesToOne }
 {}
 
 fn needs_send<T: Send>(value: T) -> T

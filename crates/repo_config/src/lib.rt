@@ -45,5 +45,7 @@ pub use config::Config;
 pub use config_err::ConfigErr;
 pub use group::Group;
 pub use key_text::KeyText;
-pub use laws::{exactly_one_meaning, keys_are_parted, sent, settings_are_sound};
+pub use laws::{
+    exactly_one_meaning, keys_are_parted, sent, settings_are_sound, the_step_reads_the_same,
+};
 pub use repo::Repo;

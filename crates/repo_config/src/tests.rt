@@ -377,5 +377,6 @@ fn holds_what_is_set(rt: HostRuntime) -> Result<(), Fail> {
     assert_eq!(rt; config.sha1(), DIGEST);
     let other = StoreName::parse(alloc, b"other").ok().ok_or("a name")?;
     assert!(rt; config.group(&other).is_none() && config.layout(&other).is_none());
+    assert!(rt; config.takes(repo, &store) && !config.takes(repo, &other));
     Ok(())
 }
