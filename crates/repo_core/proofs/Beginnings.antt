@@ -1,5 +1,5 @@
 -- A core over devices with nothing in them stands for the repository in which nothing was stored.
-use Rattle.std.proofs.Common.{◌≡◌, ◌≢◌, ℕ, ◌≤◌, List, Option, Some, None, IsTrue, IsSome, is_some, true, false, refl, sym, ◌∙◌, ap}
+use Rattle.std.proofs.Common.{◌≡◌, ℕ, List, Option, Some, None, IsSome, is_some, true, false, refl, sym, ◌∙◌, ap}
 use Rattle.std.specs.Option.{option_map}
 use Rattle.std.specs.FinMap as map
 use Rattle.std.specs.FinSet as set
@@ -12,7 +12,6 @@ use Rattle.repo_model.specs.declared.plain.config.PlainConfig.{PlainConfig}
 use Rattle.repo_model.specs.Config.{Config}
 use Rattle.repo_model.specs.State.{empty_state}
 use Rattle.repo_model.specs.Spots.{spot_cmp, spot_of}
-use Rattle.repo_model.specs.Storing.{is_taken}
 use Rattle.repo_model.specs.Plain.{config_of}
 use Rattle.disk_model.specs.Disk.{Tree}
 use Rattle.asset_keeper.specs.Table.{Table}
@@ -22,9 +21,8 @@ use Rattle.tree_content.specs.Blobs.{IsRef, Reads, props_name}
 use Rattle.tree_content.specs.Contents.{Content}
 use Rattle.tree_content.proofs.Names.{outside}
 use Rattle.tree_content.proofs.Blobs.{none_or_some}
-use Rattle.repo_core.specs.Stores.{homes_of}
 use Rattle.repo_core.specs.Rows.{content_in, contents_in, rows_in}
-use Rattle.repo_core.specs.Agree.{FilesAgree, Agrees}
+use Rattle.repo_core.specs.Agree.{FilesAgree}
 use Rattle.repo_core.specs.Fresh.{IsEmptyTree, fresh_core}
 use Rattle.repo_core.specs.Standing.{Tracks}
 

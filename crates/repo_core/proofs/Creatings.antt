@@ -1,5 +1,5 @@
 -- Agreement of files and state where a key gets a new blob: the first, or one in place of another, which is then marked.
-use Rattle.std.proofs.Common.{◌≡◌, ◌≢◌, ◌⊎◌, inl, inr, ⊎_elim, ◌↔◌, ℕ, ◌≤◌, ◌<◌, Bool, true, false, IsTrue, ◌||◌, List, Option, Some, None, IsSome, is_some, refl, sym, ◌∙◌, ap, subst, arith, true≢false}
+use Rattle.std.proofs.Common.{◌≡◌, ◌≢◌, ◌⊎◌, inl, inr, ℕ, ◌≤◌, ◌<◌, Bool, true, false, ◌||◌, List, Option, Some, None, is_some, refl, sym, ◌∙◌, ap, subst, arith}
 use Rattle.std.specs.Option.{option_map}
 use Rattle.std.specs.FinMap as map
 use Rattle.std.specs.FinSet as set
@@ -14,7 +14,6 @@ use Rattle.repo_model.specs.declared.spot.Spot.{Spot}
 use Rattle.repo_model.specs.Config.{Config}
 use Rattle.repo_model.specs.State.{State, row_of}
 use Rattle.repo_model.specs.Spots.{spot_of, spot_cmp}
-use Rattle.repo_model.specs.Storing.{with_asset, is_taken}
 use Rattle.repo_model.proofs.SpotOrder.{spot_cmp_total, exact_spots}
 use Rattle.disk_model.specs.Disk.{Tree}
 use Rattle.blob_paths.specs.Places.{place_of}
@@ -22,8 +21,8 @@ use Rattle.blob_paths.specs.declared.ending.Ending.TheVariants.{Properties}
 use Rattle.blob_properties.specs.Props.{Props, with_mark}
 use Rattle.blob_properties.specs.declared.deleted.Deleted.{Deleted}
 use Rattle.tree_content.specs.Blobs.{IsRef, Reads, Live, SameFiles, props_name}
-use Rattle.tree_content.specs.Contents.{Content, Contents, content_of, with_content, NoneLive}
-use Rattle.tree_content.specs.Files.{RestOfPlace, SaysMarked}
+use Rattle.tree_content.specs.Contents.{Content, content_of, with_content, NoneLive}
+use Rattle.tree_content.specs.Files.{RestOfPlace}
 use Rattle.tree_content.proofs.Names.{same_names, same_or_other}
 use Rattle.tree_content.proofs.Blobs.{some_is, none_or_some, says_same, blob_same, same_or_other_key, absent_is_not_live, marked_is_not_live}
 use Rattle.tree_content.proofs.Naming.{first_names, replaced_names}

@@ -1,5 +1,5 @@
 -- How a put that was made ready ends.
-use Rattle.std.proofs.Common.{◌≡◌, ◌⊎◌, inl, inr, ⊎_elim, ◌<◌, ℕ, true, IsTrue, List, [], ◌∷◌, codes, Option, Some, None, refl, sym, ◌∙◌, ap, subst}
+use Rattle.std.proofs.Common.{◌≡◌, inr, ◌<◌, ℕ, List, codes, Option, Some, None, refl, sym, ◌∙◌, ap, subst}
 use Rattle.std.specs.FinMap as map
 use Rattle.nx_base.specs.Given.{given}
 use Rattle.nx_base.specs.Order.{key_cmp, age_cmp}
@@ -16,28 +16,23 @@ use Rattle.repo_model.specs.Stamps.{time_of, next_stamp}
 use Rattle.repo_model.specs.Outcome.{answered}
 use Rattle.repo_model.specs.Storing.{with_asset, new_asset}
 use Rattle.repo_model.specs.Deleting.{discarded}
-use Rattle.repo_model.specs.Step.{Step, outcome}
+use Rattle.repo_model.specs.Step.{Step}
 use Rattle.disk_model.specs.Disk.{Tree, Lists, Same, Rest}
 use Rattle.disk_model.specs.Moments.{During, MayPut, Settled, EachImage}
 use Rattle.disk_model.proofs.Chain.{weaker, and_then}
 use Rattle.blob_paths.specs.Places.{place_of}
-use Rattle.blob_paths.specs.declared.ending.Ending.TheVariants.{Properties}
-use Rattle.blob_properties.specs.Props.{Props, with_mark}
+use Rattle.blob_properties.specs.Props.{with_mark}
 use Rattle.blob_properties.specs.Readable.{marked_text_of}
 use Rattle.tree_content.specs.Blobs.{Reads, bytes_at, props_at, props_name}
-use Rattle.tree_content.specs.Contents.{HasContents}
 use Rattle.tree_content.specs.Files.{RestOfPlace, Creates}
 use Rattle.repo_core.specs.declared.marking.Mark.{Mark}
 use Rattle.repo_core.specs.declared.staging.Staged.{Staged}
 use Rattle.repo_core.specs.declared.own.Own.{Own}
-use Rattle.repo_core.specs.Stores.{homes_of}
-use Rattle.repo_core.specs.Rows.{contents_in}
 use Rattle.repo_core.specs.Agree.{FilesAgree, Agrees}
 use Rattle.repo_core.specs.Marks.{IsMarkOf}
 use Rattle.repo_core.specs.Puts.{put_call, next_ref, props_of, MayGo, AreBytes, IsPrepared}
 use Rattle.repo_core.specs.Standing.{BeforeOrAfter}
 use Rattle.repo_core.proofs.Creatings.{Makes, files_created, files_replaced}
-use Rattle.repo_core.proofs.Readings.{free_apart, reads_kept}
 use Rattle.repo_core.proofs.Puttings.{later_stamp}
 use Rattle.repo_core.proofs.Givings.{its_props}
 use Rattle.repo_core.proofs.Replacings.{makes, no_old, its_old, no_trash, crash_created, image_replaced}

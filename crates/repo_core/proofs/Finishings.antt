@@ -1,5 +1,5 @@
 -- What the end of a call comes to in the history.
-use Rattle.std.proofs.Common.{◌≡◌, ◌⊎◌, inl, inr, ℕ, Bool, true, false, not, IsTrue, List, [], Option, Some, None, Result, Ok, Err, refl, sym, ◌∙◌, ap, subst}
+use Rattle.std.proofs.Common.{◌≡◌, inl, inr, ℕ, false, not, IsTrue, [], Option, Some, None, Result, Ok, Err, refl, sym, ◌∙◌, ap, subst}
 use Rattle.nx_base.specs.Given.{given}
 use Rattle.repo_model.specs.declared.call.Call.{Call}
 use Rattle.repo_model.specs.declared.reply.Cause.{Cause}
@@ -14,12 +14,10 @@ use Rattle.repo_model.specs.State.{State}
 use Rattle.repo_model.specs.Outcome.{refused}
 use Rattle.repo_model.specs.Step.{outcome, sound_outcome}
 use Rattle.repo_model.specs.History.{Follows, refusal_of, is_begin}
-use Rattle.repo_core.specs.declared.denial.Denial.{Denial}
-use Rattle.repo_core.specs.declared.denial.Denial.TheVariants as denial
 use Rattle.repo_core.specs.declared.stop.Stop.{Stop}
 use Rattle.repo_core.specs.declared.stop.Stop.TheVariants as stop
-use Rattle.repo_core.specs.Faults.{refusal_of_fault, refusal_for}
-use Rattle.repo_core.specs.Answers.{entry_of, answer_of, cause_of, is_denied, is_broke}
+use Rattle.repo_core.specs.Faults.{refusal_of_fault}
+use Rattle.repo_core.specs.Answers.{entry_of, answer_of, cause_of, is_broke}
 use Rattle.repo_core.specs.Ends.{Ends}
 
 -- a broken repository answers by its cause, and stays

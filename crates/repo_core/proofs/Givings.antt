@@ -1,5 +1,5 @@
 -- How the giving up of a key's row goes: what crashes leave, and what it comes to.
-use Rattle.std.proofs.Common.{◌≡◌, ◌≢◌, ◌⊎◌, inl, inr, ⊎_elim, ◌↔◌, ℕ, ◌≤◌, List, [], ◌∷◌, Option, Some, None, true, IsTrue, refl, sym, ◌∙◌, ap, subst}
+use Rattle.std.proofs.Common.{◌≡◌, ◌⊎◌, inl, inr, ⊎_elim, ℕ, List, Option, Some, None, IsTrue, refl, sym, ◌∙◌, ap, subst}
 use Rattle.std.specs.Option.{option_map}
 use Rattle.std.specs.FinMap as map
 use Rattle.nx_base.specs.Order.{key_cmp, age_cmp}
@@ -7,25 +7,22 @@ use Rattle.nx_base.specs.declared.key.Key.{Key}
 use Rattle.nx_base.specs.declared.asset.Asset.{Asset}
 use Rattle.nx_base.specs.declared.blob_ref.BlobRef.{BlobRef}
 use Rattle.repo_model.specs.declared.call.Call.{Call}
-use Rattle.repo_model.specs.declared.call.Call.TheVariants as call
 use Rattle.repo_model.specs.declared.reply.Reply.{Reply}
 use Rattle.repo_model.specs.declared.deletion.Deletion.{Deletion}
 use Rattle.repo_model.specs.Config.{Config}
 use Rattle.repo_model.specs.State.{State, row_of}
-use Rattle.repo_model.specs.Stamps.{time_of}
-use Rattle.repo_model.specs.Deleting.{gone, discarded, without_row}
-use Rattle.repo_model.specs.Step.{Step, outcome}
+use Rattle.repo_model.specs.Deleting.{discarded, without_row}
+use Rattle.repo_model.specs.Step.{Step}
 use Rattle.disk_model.specs.Disk.{Tree, Lists, Same, Rest}
 use Rattle.disk_model.specs.Moments.{During, MayPut, Settled, EachImage, IsImage}
 use Rattle.disk_model.proofs.Chain.{weaker, same_then_put}
 use Rattle.disk_model.proofs.Images.{same_image}
-use Rattle.blob_paths.specs.Places.{place_of}
 use Rattle.blob_paths.specs.declared.ending.Ending.TheVariants.{Properties}
 use Rattle.blob_properties.specs.Props.{Props, with_mark}
 use Rattle.blob_properties.specs.Readable.{Readable, readable_of, marked_text_of}
-use Rattle.tree_content.specs.Blobs.{Homes, IsRef, Reads, Live, props_at, props_name}
+use Rattle.tree_content.specs.Blobs.{Homes, IsRef, Reads, props_at, props_name}
 use Rattle.tree_content.specs.Contents.{Content, Contents, ContentOf, HasContents, with_content, OldOrNew, OnlyLive}
-use Rattle.tree_content.specs.Files.{RestOfPlace, SaysMarked}
+use Rattle.tree_content.specs.Files.{SaysMarked}
 use Rattle.tree_content.proofs.Names.{outside}
 use Rattle.tree_content.proofs.Blobs.{some_is}
 use Rattle.tree_content.proofs.Changes.{tmp_same, before_or_after}

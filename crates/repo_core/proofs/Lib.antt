@@ -9,6 +9,7 @@ pub mod Rises
 pub mod Reasons
 pub mod Looks
 pub mod Tables
+pub mod BeginSteps
 pub mod Puttings
 pub mod Replacings
 pub mod Endings

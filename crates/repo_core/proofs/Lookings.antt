@@ -1,8 +1,7 @@
 -- Looks at contents: what a download leaves of the rows, and what is given.
-use Rattle.std.proofs.Common.{◌≡◌, ◌≢◌, inl, inr, ⊎_elim, ℕ, List, [], length, Option, Some, None, IsSome, is_some, Ok, Err, true, refl, sym, ◌∙◌, ap, subst}
+use Rattle.std.proofs.Common.{◌≡◌, ◌≢◌, inl, inr, ℕ, List, [], length, Option, Some, None, IsSome, is_some, refl, sym, ◌∙◌, ap, subst}
 use Rattle.std.specs.Option.{option_map}
 use Rattle.std.specs.FinMap as map
-use Rattle.sha1.specs.Sha1.{sha1}
 use Rattle.nx_base.specs.Given.{given}
 use Rattle.nx_base.specs.Order.{key_cmp}
 use Rattle.nx_base.specs.declared.key.Key.{Key}
@@ -10,7 +9,6 @@ use Rattle.nx_base.specs.declared.asset.Asset.{Asset}
 use Rattle.nx_base.specs.declared.moment.Moment.{Moment}
 use Rattle.nx_base.proofs.Orders.{key_cmp_total, exact_keys}
 use Rattle.asset_keeper.specs.declared.change.Change.{Change}
-use Rattle.asset_keeper.specs.declared.change.Change.TheVariants as change
 use Rattle.asset_keeper.specs.Table.{Table, changed}
 use Rattle.asset_keeper.specs.Told.{Tells}
 use Rattle.disk_model.specs.Disk.{Tree, Lists, Same}
@@ -21,10 +19,10 @@ use Rattle.repo_model.specs.declared.call.Call.TheVariants as call
 use Rattle.repo_model.specs.declared.call.Look.{Look}
 use Rattle.repo_model.specs.declared.call.RemoteSaid.TheVariants as remote
 use Rattle.repo_model.specs.declared.reply.Refusal.TheVariants as refusal
-use Rattle.repo_model.specs.Config.{Repo, Config, repo_of, is_hosted}
+use Rattle.repo_model.specs.Config.{Repo, Config, repo_of}
 use Rattle.repo_model.specs.State.{State, row_of}
 use Rattle.repo_model.specs.Outcome.{refused}
-use Rattle.repo_model.specs.Serving.{downloaded, served}
+use Rattle.repo_model.specs.Serving.{served}
 use Rattle.repo_model.specs.Step.{outcome, on_get}
 use Rattle.tree_content.specs.Blobs.{bytes_name}
 use Rattle.tree_content.specs.Contents.{Content, HasContents}
@@ -40,7 +38,7 @@ use Rattle.repo_core.proofs.Maps.{set_at, set_beside}
 use Rattle.repo_core.proofs.Samenesses.{files_same, files_seen}
 use Rattle.repo_core.proofs.Givings.{same_contents}
 use Rattle.repo_core.proofs.Steps.{sound_is}
-use Rattle.repo_core.proofs.Tables.{Told, told_of}
+use Rattle.repo_core.proofs.Tables.{told_of}
 
 -- what is set already
 pub set_same : (m : map.FinMap key_cmp Asset) (key : Key) (asset : Asset) → map.get m key ≡ Some asset → m ≡ map.insert m key asset

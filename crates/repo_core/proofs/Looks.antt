@@ -1,11 +1,11 @@
 -- What was found where a blob's properties were looked for.
-use Rattle.std.proofs.Common.{◌≡◌, ◌≤◌, ◌<◌, List, ℕ, length, Option, Some, None, refl, sym, ◌∙◌, ap, arith}
+use Rattle.std.proofs.Common.{◌≡◌, ◌<◌, List, ℕ, length, Option, Some, None, refl, sym, ◌∙◌, ap, arith}
 use Rattle.std.specs.Option.{option_map}
 use Rattle.nx_base.specs.declared.blob_ref.BlobRef.{BlobRef}
 use Rattle.disk_model.specs.Disk.{Tree}
 use Rattle.blob_paths.specs.Places.{place_of}
 use Rattle.blob_properties.specs.Props.{Props}
-use Rattle.blob_properties.specs.Readable.{Readable, readable_of, HasRoom}
+use Rattle.blob_properties.specs.Readable.{Readable, readable_of}
 use Rattle.blob_properties.proofs.Lengths.{readable-room}
 use Rattle.tree_content.specs.Blobs.{props_at, props_name}
 use Rattle.repo_core.specs.Marks.{IsUnreadable}

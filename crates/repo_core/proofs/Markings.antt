@@ -1,5 +1,5 @@
 -- Agreement of files and state where the row of a key goes and its blob is marked.
-use Rattle.std.proofs.Common.{◌≡◌, ◌≢◌, ◌⊎◌, inl, inr, ⊎_elim, ◌↔◌, ℕ, ◌≤◌, List, Option, Some, None, is_some, refl, sym, ◌∙◌, ap, subst}
+use Rattle.std.proofs.Common.{◌≡◌, inl, inr, ℕ, ◌≤◌, List, Option, Some, None, is_some, refl, sym, ◌∙◌, ap, subst}
 use Rattle.std.specs.Option.{option_map}
 use Rattle.std.specs.FinMap as map
 use Rattle.nx_base.specs.Order.{key_cmp}
@@ -9,14 +9,14 @@ use Rattle.nx_base.specs.declared.blob_ref.BlobRef.{BlobRef}
 use Rattle.repo_model.specs.declared.deletion.Deletion.{Deletion}
 use Rattle.repo_model.specs.Config.{Config}
 use Rattle.repo_model.specs.State.{State, row_of}
-use Rattle.repo_model.specs.Deleting.{discarded, without_row}
+use Rattle.repo_model.specs.Deleting.{without_row}
 use Rattle.disk_model.specs.Disk.{Tree}
 use Rattle.blob_paths.specs.Places.{place_of}
 use Rattle.blob_paths.specs.declared.ending.Ending.TheVariants.{Properties}
 use Rattle.blob_properties.specs.Props.{Props, with_mark}
 use Rattle.blob_properties.specs.declared.deleted.Deleted.{Deleted}
 use Rattle.tree_content.specs.Blobs.{IsRef, Reads, Live, SameFiles, props_name}
-use Rattle.tree_content.specs.Contents.{Content, Contents, content_of, with_content, NoneLive}
+use Rattle.tree_content.specs.Contents.{with_content, NoneLive}
 use Rattle.tree_content.specs.Files.{RestOfPlace, SaysMarked}
 use Rattle.tree_content.proofs.Names.{same_names, same_or_other}
 use Rattle.tree_content.proofs.Blobs.{some_is, none_or_some, says_same, blob_same, same_or_other_key, marked_is_not_live}

@@ -1,22 +1,19 @@
 -- The step of a put, by what is found.
-use Rattle.std.proofs.Common.{◌≡◌, ◌⊎◌, inl, inr, ⊎_elim, ◌≤◌, ◌<◌, ℕ, Bool, true, false, not, if◌then◌else◌, nat_le, IsTrue, IsSome, IfOk, IfErr, OnOk, List, Option, Some, None, Result, Ok, Err, refl, sym, ◌∙◌, ap, subst, arith, is_some}
-use Rattle.nx_base.specs.Given.{given}
-use Rattle.nx_base.specs.Ids.{id_made}
+use Rattle.std.proofs.Common.{◌≡◌, ◌⊎◌, inl, inr, ⊎_elim, ◌≤◌, ◌<◌, ℕ, Bool, true, false, not, if◌then◌else◌, nat_le, IsSome, IfOk, IfErr, OnOk, List, Option, None, Result, Ok, Err, refl, sym, ◌∙◌, ap, subst, arith, is_some}
 use Rattle.nx_base.specs.declared.moment.Moment.{Moment}
 use Rattle.nx_base.specs.declared.blob_ref.BlobRef.{BlobRef}
 use Rattle.nx_base.specs.declared.asset.Asset.{Asset}
 use Rattle.nx_base.specs.declared.policy.Policy.TheVariants.{NoRedeploy}
 use Rattle.repo_model.specs.declared.upload.Upload.{Upload}
 use Rattle.repo_model.specs.declared.reply.Fault.TheVariants as fault
-use Rattle.repo_model.specs.declared.reply.Refusal.{Refusal}
 use Rattle.repo_model.specs.declared.reply.Refusal.TheVariants as refusal
 use Rattle.repo_model.specs.declared.reply.Reply.TheVariants as reply
-use Rattle.repo_model.specs.Config.{Config, Repo, repo_of, takes}
-use Rattle.repo_model.specs.State.{State, row_of}
-use Rattle.repo_model.specs.Outcome.{Outcome, answered, refused}
+use Rattle.repo_model.specs.Config.{Config}
+use Rattle.repo_model.specs.State.{State}
+use Rattle.repo_model.specs.Outcome.{answered, refused}
 use Rattle.repo_model.specs.Stamps.{greatest_time, next_stamp, time_of}
 use Rattle.repo_model.specs.Writing.{keeps_row}
-use Rattle.repo_model.specs.Storing.{Stored, stored, stored_as, is_taken, new_asset, with_asset}
+use Rattle.repo_model.specs.Storing.{stored, stored_as, is_taken, new_asset, with_asset}
 use Rattle.repo_model.specs.Step.{outcome, on_put, put_reply}
 use Rattle.disk_model.specs.Disk.{Tree}
 use Rattle.disk_model.specs.declared.disk_err.DiskErr.{DiskErr}

@@ -1,7 +1,7 @@
 -- Which blobs are readable where the files of one blob change.
-use Rattle.std.proofs.Common.{◌≡◌, ◌⊎◌, inl, inr, List, ℕ, Option, Some, None, refl, sym, ◌∙◌, ap}
+use Rattle.std.proofs.Common.{◌≡◌, ◌⊎◌, inl, inr, None, sym, ◌∙◌, ap}
 use Rattle.nx_base.specs.declared.blob_ref.BlobRef.{BlobRef}
-use Rattle.disk_model.specs.Disk.{Tree, Outside, Same, Rest}
+use Rattle.disk_model.specs.Disk.{Tree, Rest}
 use Rattle.blob_paths.specs.Places.{place_of}
 use Rattle.blob_paths.specs.declared.ending.Ending.TheVariants.{Bytes, Properties}
 use Rattle.blob_properties.specs.Props.{Props}

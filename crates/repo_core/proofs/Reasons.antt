@@ -1,8 +1,8 @@
 -- The reasons of deletions have at most 100 written bytes.
-use Rattle.std.proofs.Common.{◌≡◌, ◌≢◌, ◌≤◌, ℕ, List, length, true, codes, slice_index, refl, sym, ap, subst, arith}
+use Rattle.std.proofs.Common.{◌≡◌, ◌≢◌, ◌≤◌, ℕ, List, length, true, codes, slice_index, refl, sym, subst, arith}
 use Rattle.std.specs.List.{list_all}
 use Rattle.java_props.specs.Writing.{value_text}
-use Rattle.blob_properties.specs.Plain.{IsPlain, is_plain}
+use Rattle.blob_properties.specs.Plain.{is_plain}
 use Rattle.blob_properties.proofs.Lengths.{plain-value}
 
 -- a plain reason is written as it is

@@ -1,5 +1,5 @@
 -- How a put goes: what crashes leave, and what it comes to.
-use Rattle.std.proofs.Common.{◌≡◌, ◌≢◌, ◌⊎◌, inl, inr, ⊎_elim, ◌↔◌, ℕ, ◌≤◌, ◌<◌, Bool, true, false, cond, not, ◌||◌, IsTrue, List, [], ◌∷◌, filter, length, codes, Option, Some, None, refl, sym, ◌∙◌, ap, subst, arith}
+use Rattle.std.proofs.Common.{◌≡◌, ◌⊎◌, inl, inr, ⊎_elim, ℕ, ◌<◌, Bool, true, false, cond, not, ◌||◌, IsTrue, List, [], ◌∷◌, filter, codes, Option, Some, None, refl, sym, ◌∙◌, ap, subst, arith}
 use Rattle.std.specs.List.{list_any}
 use Rattle.std.specs.Option.{option_map}
 use Rattle.std.specs.FinMap as map
@@ -12,29 +12,27 @@ use Rattle.nx_base.specs.declared.blob_ref.BlobRef.{BlobRef}
 use Rattle.repo_model.specs.declared.upload.Upload.{Upload}
 use Rattle.repo_model.specs.declared.call.Call.{Call}
 use Rattle.repo_model.specs.declared.reply.Reply.{Reply}
-use Rattle.repo_model.specs.Config.{Config, Repo, group_of, takes}
+use Rattle.repo_model.specs.Config.{Config, Repo, group_of}
 use Rattle.repo_model.specs.State.{State, row_of}
 use Rattle.repo_model.specs.Step.{Step}
 use Rattle.repo_model.specs.Storing.{new_asset}
-use Rattle.disk_model.specs.Disk.{Tree, Lists, Same, Rest, Outside}
-use Rattle.disk_model.specs.Moments.{During, MayPut, Settled, Alone, EachImage, IsImage}
+use Rattle.disk_model.specs.Disk.{Tree, Lists, Same}
+use Rattle.disk_model.specs.Moments.{During, MayPut, Settled, EachImage, IsImage}
 use Rattle.disk_model.specs.Disk.{Among}
 use Rattle.disk_model.proofs.Names.{same_or_not}
 use Rattle.disk_model.proofs.Chain.{weaker, and_then}
 use Rattle.disk_model.proofs.Images.{settled_same}
-use Rattle.blob_paths.specs.Places.{place_of}
-use Rattle.blob_properties.specs.Props.{Props, with_mark}
-use Rattle.blob_properties.specs.Readable.{Readable, readable_of, marked_text_of}
-use Rattle.tree_content.specs.Blobs.{Homes, IsRef, Reads, Live, SameFiles, bytes_at, props_at, bytes_name, props_name, stamped}
-use Rattle.tree_content.specs.Contents.{Content, Contents, ContentOf, HasContents, SameContents, OldOrBlob, OldOrNew, IsNoContent, IsFrom, content_of, with_content}
+use Rattle.blob_properties.specs.Props.{Props}
+use Rattle.tree_content.specs.Blobs.{Homes, Reads, bytes_at, props_at, props_name}
+use Rattle.tree_content.specs.Contents.{Content, Contents, ContentOf, HasContents, OldOrBlob, OldOrNew, IsNoContent, IsFrom, content_of, with_content}
 use Rattle.tree_content.specs.Files.{RestOfPlace, Creates, SaysMarked}
 use Rattle.blob_paths.specs.declared.ending.Ending.TheVariants.{Properties}
 use Rattle.tree_content.proofs.Names.{outside}
 use Rattle.repo_core.proofs.Maps.{set_at, set_beside}
 use Rattle.tree_content.proofs.Blobs.{some_is, none_or_some, same_or_other_key, absent_is_not_live}
-use Rattle.tree_content.proofs.Changes.{before_or_after, newest_stamp, gained_beside, one_content, tmp_same}
+use Rattle.tree_content.proofs.Changes.{before_or_after, newest_stamp, gained_beside, one_content}
 use Rattle.tree_content.proofs.Images.{creating, marking_unnamed}
-use Rattle.tree_content.proofs.Naming.{named_contents, other_files}
+use Rattle.tree_content.proofs.Naming.{other_files}
 use Rattle.repo_core.specs.declared.staging.NewBlob.{NewBlob}
 use Rattle.repo_core.specs.declared.marking.Mark.{Mark}
 use Rattle.repo_core.specs.declared.own.Own.{Own}
@@ -46,7 +44,7 @@ use Rattle.repo_core.specs.Marks.{IsMarkOf}
 use Rattle.repo_core.specs.Puts.{props_of, IsNewBlob, MayGo, AreBytes, StagesOld, with_old}
 use Rattle.repo_core.specs.Standing.{BeforeOrAfter, is_done}
 use Rattle.repo_core.proofs.Creatings.{Makes, set_contents}
-use Rattle.repo_core.proofs.Readings.{free_apart, reads_kept}
+use Rattle.repo_core.proofs.Readings.{free_apart}
 use Rattle.repo_core.proofs.Runs.{at_end}
 use Rattle.repo_core.proofs.Givings.{contents_ext, has_contents, same_contents, crash_same, is_readable}
 

@@ -1,11 +1,10 @@
 -- Counts of faults over several calls.
-use Rattle.std.proofs.Common.{◌≡◌, ◌≤◌, ◌+◌, ℕ, Result, Ok, Err, min, refl, sym, ap, subst, arith}
+use Rattle.std.proofs.Common.{◌≡◌, ◌≤◌, ℕ, Err, sym, subst, arith}
 use Rattle.nx_io.specs.Causes.{Rose, HasCauseWhere}
 use Rattle.disk_model.specs.Disk.{IsFault}
 use Rattle.disk_model.specs.declared.disk_err.DiskErr.{DiskErr}
 use Rattle.disk_model.specs.declared.disk_err.DiskErr.TheVariants as disk
 use Rattle.repo_model.specs.declared.reply.Fault.{Fault}
-use Rattle.repo_core.specs.declared.stop.Stop.{Stop}
 use Rattle.repo_core.specs.declared.stop.Stop.TheVariants as stop
 use Rattle.repo_core.specs.Faults.{of_disk, IsDisk, IsKeeper, StoppedBy}
 

@@ -1,6 +1,6 @@
 -- Runs of calls on a disk by which nothing can be seen.
-use Rattle.std.proofs.Common.{◌≡◌, ◌∙◌, ℕ, refl, sym, ap, arith, ◌≤◌}
-use Rattle.disk_model.specs.Disk.{Tree, Lists, Same}
+use Rattle.std.proofs.Common.{◌≡◌, ◌∙◌, ℕ, refl, ap, arith}
+use Rattle.disk_model.specs.Disk.{Lists, Same}
 use Rattle.disk_model.specs.Moments.{During, Ticks}
 use Rattle.disk_model.proofs.Chain.{started, goes_on}
 

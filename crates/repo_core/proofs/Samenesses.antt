@@ -1,5 +1,5 @@
 -- Agreement of files and state where nothing that counts has changed.
-use Rattle.std.proofs.Common.{◌≡◌, ◌≢◌, ◌⊎◌, inl, inr, ◌↔◌, List, ℕ, Option, Some, None, is_some, refl, sym, ◌∙◌, ap, subst}
+use Rattle.std.proofs.Common.{◌≡◌, ◌≢◌, inl, inr, List, ℕ, Option, Some, is_some, sym, ◌∙◌, ap}
 use Rattle.std.specs.Option.{option_map}
 use Rattle.std.specs.FinMap as map
 use Rattle.nx_base.specs.Order.{key_cmp}
@@ -10,17 +10,16 @@ use Rattle.repo_model.specs.Config.{Config}
 use Rattle.repo_model.specs.State.{State, row_of}
 use Rattle.disk_model.specs.Disk.{Tree, Same}
 use Rattle.blob_paths.specs.Places.{file_of}
-use Rattle.blob_paths.specs.declared.ending.Ending.{Ending}
 use Rattle.blob_paths.specs.declared.ending.Ending.TheVariants.{Properties}
 use Rattle.blob_properties.specs.Props.{Props}
 use Rattle.tree_content.specs.Blobs.{Homes, IsRef, Reads, Live, props_name}
-use Rattle.tree_content.specs.Contents.{Content, Contents, content_of, NamesEachLive}
+use Rattle.tree_content.specs.Contents.{Content, Contents, NamesEachLive}
 use Rattle.tree_content.proofs.Names.{outside}
 use Rattle.tree_content.proofs.Blobs.{same_or_other_key, some_is}
 use Rattle.tree_content.proofs.Changes.{live_moves}
 use Rattle.repo_core.specs.Stores.{homes_of}
 use Rattle.repo_core.specs.Rows.{content_in, contents_in}
-use Rattle.repo_core.specs.Agree.{IsMarked, IsLoose, FilesAgree}
+use Rattle.repo_core.specs.Agree.{FilesAgree}
 use Rattle.repo_core.proofs.Maps.{set_at, set_beside}
 use Rattle.repo_core.proofs.Readings.{reads_at}
 

@@ -1,14 +1,12 @@
 -- How the giving out of a content ends.
-use Rattle.std.proofs.Common.{◌≡◌, ◌≢◌, inl, inr, ⊎_elim, ℕ, List, [], length, Option, Some, None, IsSome, is_some, Result, Ok, Err, IfOk, OnOk, IsErrOf, true, refl, sym, ◌∙◌, ap, subst}
+use Rattle.std.proofs.Common.{◌≡◌, inl, inr, ℕ, List, [], Option, Some, None, IsSome, Result, Ok, Err, IfOk, OnOk, IsErrOf, true, refl, sym, ◌∙◌, ap, subst}
 use Rattle.std.specs.FinMap as map
-use Rattle.nx_base.specs.Order.{key_cmp}
 use Rattle.nx_base.specs.declared.key.Key.{Key}
 use Rattle.nx_base.specs.declared.asset.Asset.{Asset}
 use Rattle.nx_base.specs.declared.moment.Moment.{Moment}
 use Rattle.asset_keeper.specs.Table.{Table}
 use Rattle.asset_keeper.specs.Told.{Tells}
 use Rattle.disk_model.specs.Disk.{Tree, Same}
-use Rattle.repo_model.specs.declared.call.Call.{Call}
 use Rattle.repo_model.specs.declared.call.Call.TheVariants as call
 use Rattle.repo_model.specs.declared.call.Look.TheVariants as look
 use Rattle.repo_model.specs.declared.call.RemoteSaid.TheVariants as remote
@@ -16,7 +14,6 @@ use Rattle.repo_model.specs.declared.reply.Reply.TheVariants as reply
 use Rattle.repo_model.specs.Config.{Config}
 use Rattle.repo_model.specs.State.{State, row_of}
 use Rattle.repo_model.specs.Stamps.{time_of}
-use Rattle.repo_model.specs.Outcome.{Outcome}
 use Rattle.repo_model.specs.Serving.{downloaded, served}
 use Rattle.repo_model.specs.Step.{outcome}
 use Rattle.tree_content.specs.Blobs.{bytes_name}
@@ -32,7 +29,7 @@ use Rattle.repo_core.specs.Rows.{rows_in}
 use Rattle.repo_core.specs.Agree.{FilesAgree, Agrees}
 use Rattle.repo_core.specs.Answers.{is_denied}
 use Rattle.repo_core.specs.Ends.{Denies, Ends}
-use Rattle.repo_core.specs.Got.{IsContentOf, GotFile, GotContent}
+use Rattle.repo_core.specs.Got.{GotFile, GotContent}
 use Rattle.repo_core.specs.Looking.{NotOpened, IfDenied, got_in, got_given}
 use Rattle.repo_core.proofs.Givings.{agrees_same}
 use Rattle.repo_core.proofs.Steps.{fault_denies, damage_denies}

@@ -1,5 +1,5 @@
 -- The step of a deletion, by what is found; and denials that no step gives.
-use Rattle.std.proofs.Common.{◌≡◌, ◌⊎◌, inl, inr, ◌≢◌, true, false, ℕ, List, [], Option, Some, None, refl, sym, ◌∙◌, ap}
+use Rattle.std.proofs.Common.{◌≡◌, inl, inr, ◌≢◌, true, false, ℕ, List, [], Option, Some, None, refl, ◌∙◌, ap}
 use Rattle.nx_base.specs.Given.{given}
 use Rattle.nx_base.specs.declared.key.Key.{Key}
 use Rattle.nx_base.specs.declared.asset.Asset.{Asset}
@@ -9,12 +9,11 @@ use Rattle.repo_model.specs.declared.call.Call.TheVariants as call
 use Rattle.repo_model.specs.declared.reply.Fault.{Fault}
 use Rattle.repo_model.specs.declared.reply.Fault.TheVariants as fault
 use Rattle.repo_model.specs.declared.reply.Cause.{Cause}
-use Rattle.repo_model.specs.declared.reply.Refusal.{Refusal}
 use Rattle.repo_model.specs.declared.reply.Refusal.TheVariants as refusal
 use Rattle.repo_model.specs.declared.reply.Reply.TheVariants as reply
 use Rattle.repo_model.specs.Config.{Repo, Config, repo_of}
 use Rattle.repo_model.specs.State.{State, row_of}
-use Rattle.repo_model.specs.Outcome.{Outcome, refused}
+use Rattle.repo_model.specs.Outcome.{refused}
 use Rattle.repo_model.specs.Writing.{bars_delete}
 use Rattle.repo_model.specs.Deleting.{gone}
 use Rattle.repo_model.specs.Step.{outcome, sound_outcome, on_delete}

@@ -1,10 +1,9 @@
 -- What a look came to, as its caller and the journal are told.
-use Rattle.std.proofs.Common.{◌≡◌, ◌≢◌, ℕ, ◌<◌, List, [], ◌∷◌, length, slice_get, Option, Some, None, Result, Ok, Err, IfOk, OnErr, true, refl, sym, ◌∙◌, ap, subst}
+use Rattle.std.proofs.Common.{◌≡◌, ℕ, Option, Some, None, Result, Ok, Err, IfOk, OnErr, true, refl, sym, ◌∙◌, ap}
 use Rattle.asset_keeper.specs.Table.{Table}
 use Rattle.asset_keeper.specs.Told.{Tells}
 use Rattle.blob_files.specs.declared.download.Download.{Download}
 use Rattle.repo_model.specs.declared.reply.Cause.{Cause}
-use Rattle.repo_model.specs.declared.reply.Fault.{Fault}
 use Rattle.repo_model.specs.declared.reply.Fault.TheVariants as fault
 use Rattle.repo_model.specs.declared.reply.Refusal.{Refusal}
 use Rattle.repo_model.specs.declared.reply.Refusal.TheVariants as refusal

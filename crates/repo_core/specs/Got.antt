@@ -1,5 +1,5 @@
 -- What a look gave.
-use Rattle.std.specs.Prelude.{◌≡◌, ℕ, List, length, Option, Some}
+use Rattle.std.specs.Prelude.{◌≡◌, ℕ, List, length, Some}
 use Rattle.sha1.specs.Sha1.{sha1}
 use Rattle.nx_base.specs.declared.asset.Asset.{Asset}
 use Rattle.disk_model.specs.Disk.{Tree}

@@ -12,3 +12,4 @@ pub mod Hosted
 pub mod Fresh
 pub mod Got
 pub mod Looking
+pub mod Begun

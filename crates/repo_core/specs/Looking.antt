@@ -1,17 +1,15 @@
 -- Looks at contents: what is given, why nothing is, and what the caller then holds.
-use Rattle.std.specs.Prelude.{◌≡◌, ◌≢◌, ◌⊎◌, ℕ, List, [], length, slice_set, IsTrue, Option, Some, None, Result, Ok, Err}
+use Rattle.std.specs.Prelude.{◌≡◌, ◌≢◌, ◌⊎◌, ℕ, List, [], length, slice_set, Option, Some, None, Result, Ok, Err}
 use Rattle.std.specs.Option.{option_map}
 use Rattle.nx_base.specs.declared.key.Key.{Key}
 use Rattle.nx_base.specs.declared.asset.Asset.{Asset}
 use Rattle.nx_base.specs.declared.moment.Moment.{Moment}
 use Rattle.asset_keeper.specs.declared.change.Change.{Change}
 use Rattle.asset_keeper.specs.declared.change.Change.TheVariants as change
-use Rattle.asset_keeper.specs.Ranges.{in_range, change_in_range}
 use Rattle.disk_model.specs.declared.disk_err.DiskErr.{DiskErr}
 use Rattle.disk_model.specs.Disk.{Tree}
 use Rattle.repo_model.specs.declared.call.Call.TheVariants as call
 use Rattle.repo_model.specs.declared.call.Look.{Look}
-use Rattle.repo_model.specs.declared.call.Look.TheVariants as look
 use Rattle.repo_model.specs.declared.call.RemoteSaid.TheVariants as remote
 use Rattle.repo_model.specs.declared.reply.Refusal.{Refusal}
 use Rattle.repo_model.specs.declared.reply.Refusal.TheVariants as refusal

@@ -1,5 +1,5 @@
 -- Which stores are those of a repository.
-use Rattle.std.specs.Prelude.{Bool, false}
+use Rattle.std.specs.Prelude.{false}
 use Rattle.std.specs.List.{list_any}
 use Rattle.nx_base.specs.Given.{given}
 use Rattle.nx_base.specs.Order.{same_name}

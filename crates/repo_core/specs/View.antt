@@ -1,6 +1,5 @@
 -- What contracts see of a core.
-use Rattle.std.specs.Prelude.{ℕ, List, Option}
-use Rattle.nx_base.specs.declared.blob_ref.BlobRef.{BlobRef}
+use Rattle.std.specs.Prelude.{List, Option}
 use Rattle.repo_model.specs.declared.reply.Cause.{Cause}
 use Rattle.repo_model.specs.declared.plain.config.PlainConfig.{PlainConfig}
 use Rattle.repo_model.specs.Journal.{JournalView}

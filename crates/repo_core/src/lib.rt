@@ -18,6 +18,9 @@
 #![tactic(auto)]
 
 mod admitting;
+mod begin;
+mod beginning;
+mod choosing;
 mod closing;
 mod content;
 mod delete;

@@ -1,4 +1,4 @@
-use Rattle.std.proofs.Common.{rules, ◌≡◌, ◌≤◌, ℕ, Option, Some, None, List, [], Err, codes, inl, inr, ⊎_elim, OnOk, refl, sym, ◌∙◌, ap, subst, arith}
+use Rattle.std.proofs.Common.{◌≡◌, ℕ, Some, List, [], Err, codes, ⊎_elim, OnOk, refl, sym, ◌∙◌, ap, subst}
 use Rattle.std.specs.FinMap as map
 use Rattle.nx_base.specs.Order.{key_cmp}
 use Rattle.nx_base.specs.declared.asset.Asset.{Asset}

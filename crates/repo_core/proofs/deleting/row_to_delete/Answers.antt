@@ -1,4 +1,4 @@
-use Rattle.std.proofs.Common.{rules, ◌≡◌, [], true, false, Some, None, refl, sym, ◌∙◌, ap}
+use Rattle.std.proofs.Common.{rules, ◌≡◌, [], true, false, Some, None, ◌∙◌}
 use Rattle.nx_base.specs.declared.policy.Policy.TheVariants.{ReadOnly}
 use Rattle.repo_model.specs.declared.call.Call.TheVariants as call
 use Rattle.repo_core.specs.declared.denial.Denial.TheVariants as denial

@@ -1,4 +1,4 @@
-use Rattle.std.proofs.Common.{rules, ◌≡◌, inl, inr, Some, None, refl, sym, ◌∙◌, ap}
+use Rattle.std.proofs.Common.{inl, ◌∙◌, ap}
 use Rattle.repo_core.specs.declared.denial.Denial.TheVariants as denial
 use Rattle.disk_model.proofs.Chain.{goes_on}
 use Rattle.disk_model.specs.Disk.{Same}

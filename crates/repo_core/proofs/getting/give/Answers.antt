@@ -1,8 +1,7 @@
-use Rattle.std.proofs.Common.{rules, ◌≡◌, ℕ, [], Some, None, IsSome, OnOk, IfOk, true, refl, sym, ◌∙◌, ap, subst}
+use Rattle.std.proofs.Common.{◌≡◌, ℕ, [], Some, OnOk, IfOk, true, refl, sym, ◌∙◌, ap, subst}
 use Rattle.std.specs.FinMap as map
-use Rattle.asset_keeper.specs.Table.{Table}
 use Rattle.asset_keeper.specs.Told.{Tells}
-use Rattle.disk_model.specs.Disk.{Tree, Same}
+use Rattle.disk_model.specs.Disk.{Tree}
 use Rattle.nx_base.specs.declared.asset.Asset.{Asset}
 use Rattle.repo_model.specs.declared.call.Call.TheVariants as call
 use Rattle.repo_model.specs.declared.call.Look.{Look}
@@ -11,13 +10,11 @@ use Rattle.repo_model.specs.declared.call.RemoteSaid.TheVariants as remote
 use Rattle.repo_model.specs.declared.reply.Reply.TheVariants as reply
 use Rattle.repo_model.specs.Plain.{config_of}
 use Rattle.repo_model.specs.Serving.{downloaded, served}
-use Rattle.repo_model.specs.Stamps.{time_of}
 use Rattle.repo_model.specs.Step.{outcome}
 use Rattle.repo_core.specs.Answers.{is_denied}
 use Rattle.repo_core.specs.Agree.{Agrees}
 use Rattle.repo_core.specs.Ends.{Ends}
 use Rattle.repo_core.specs.Rows.{rows_in}
-use Rattle.repo_core.specs.Looking.{MayGet}
 use Rattle.repo_core.proofs.Givings.{agrees_same}
 use Rattle.repo_core.proofs.Serving.{ends_served, never_damaged, served_content}
 use Rattle.repo_core.proofs.Tables.{rows_same, still_told}

@@ -1,4 +1,4 @@
-use Rattle.std.proofs.Common.{rules, ◌≡◌, refl, sym, ◌∙◌, ap}
+use Rattle.std.proofs.Common.{◌∙◌, ap}
 use Rattle.disk_model.specs.Disk.{Lists, Same}
 use Rattle.disk_model.proofs.Chain.{goes_on}
 use Rattle.repo_model.specs.Serving.{downloaded}

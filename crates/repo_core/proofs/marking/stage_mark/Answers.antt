@@ -1,10 +1,10 @@
-use Rattle.std.proofs.Common.{rules, ◌≡◌, Err, Some, None, refl, sym, ◌∙◌, ap}
+use Rattle.std.proofs.Common.{Err, Some, sym, ◌∙◌, ap}
 use Rattle.std.specs.Option.{option_map}
 use Rattle.blob_properties.specs.declared.props_read.PropsRead.{PropsRead}
-use Rattle.blob_properties.specs.Readable.{readable_of, read_as}
+use Rattle.blob_properties.specs.Readable.{read_as}
 use Rattle.blob_properties.proofs.Lengths.{readable-room}
 use Rattle.disk_model.proofs.Chain.{same_then_same}
-use Rattle.repo_core.proofs.Looks.{says_at, bad_at, absent_at, never_full}
+use Rattle.repo_core.proofs.Looks.{says_at, never_full}
 use Rattle.repo_core.proofs.Runs.{looked}
 use Rattle.repo_core.proofs.marking.stage_mark.Goals as goal
 

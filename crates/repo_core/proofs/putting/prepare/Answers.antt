@@ -1,6 +1,5 @@
-use Rattle.std.proofs.Common.{rules, ◌≡◌, ◌⊎◌, inl, inr, ⊎_elim, ℕ, List, Option, Some, None, Result, Ok, Err, refl, sym, ◌∙◌, ap, subst}
+use Rattle.std.proofs.Common.{ℕ, Option, Ok, Err, sym, subst}
 use Rattle.repo_model.specs.Plain.{config_of}
-use Rattle.repo_core.specs.declared.denial.Denial.TheVariants as denial
 use Rattle.std.specs.Option.{option_copied}
 use Rattle.nx_base.specs.declared.asset.Asset.{Asset}
 use Rattle.repo_core.specs.Puts.{IsNext, MayReplace}

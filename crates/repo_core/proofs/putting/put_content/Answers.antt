@@ -1,19 +1,16 @@
-use Rattle.std.proofs.Common.{rules, ◌≡◌, ◌≤◌, ◌<◌, inl, inr, ℕ, List, [], codes, Option, Some, None, OnOk, Result, Ok, Err, refl, sym, ◌∙◌, ap, subst, arith, true≢false}
+use Rattle.std.proofs.Common.{◌≡◌, Some, OnOk, Err, refl, sym, ◌∙◌, ap, subst, arith, true≢false}
 use Rattle.std.specs.FinMap as map
 use Rattle.nx_base.specs.Order.{key_cmp}
 use Rattle.nx_base.specs.declared.asset.Asset.{Asset}
 use Rattle.disk_model.specs.Disk.{Same}
 use Rattle.disk_model.specs.Moments.{MayPut}
 use Rattle.disk_model.proofs.Images.{settled_same, settled_put}
-use Rattle.asset_keeper.specs.Table.{Table, changed}
+use Rattle.asset_keeper.specs.Table.{changed}
 use Rattle.asset_keeper.specs.Told.{Tells}
 use Rattle.asset_keeper.specs.declared.change.Change.{Change}
 use Rattle.asset_keeper.specs.declared.change.Change.TheVariants as change
-use Rattle.repo_model.specs.declared.reply.Reply.TheVariants as reply
 use Rattle.repo_model.specs.Plain.{config_of}
-use Rattle.repo_model.specs.Stamps.{time_of, next_stamp}
-use Rattle.repo_model.specs.Storing.{with_asset, new_asset}
-use Rattle.tree_content.specs.Blobs.{bytes_at, props_at}
+use Rattle.tree_content.specs.Blobs.{props_at}
 use Rattle.tree_content.specs.Files.{Creates}
 use Rattle.repo_core.specs.Rows.{rows_in}
 use Rattle.repo_core.specs.Puts.{put_call, IsPrepared}

@@ -1,4 +1,4 @@
-use Rattle.std.proofs.Common.{◌≡◌, ◌<◌, ℕ, List, length, slice_index, refl, sym, ◌∙◌, ap, subst}
+use Rattle.std.proofs.Common.{◌<◌, ℕ, List, length, slice_index, sym, ◌∙◌, ap, subst}
 use Rattle.repo_core.proofs.staging.see_ref.Goals as goal
 
 pub returns : goal.returns

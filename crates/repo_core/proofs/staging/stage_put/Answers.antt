@@ -1,4 +1,4 @@
-use Rattle.std.proofs.Common.{◌≡◌, List, ℕ, Option, refl, sym, ◌∙◌, ap}
+use Rattle.std.proofs.Common.{◌∙◌, ap}
 use Rattle.disk_model.specs.Disk.{Tree}
 use Rattle.disk_model.proofs.Chain.{same_then_same}
 use Rattle.repo_core.proofs.staging.stage_put.Goals as goal

@@ -1,8 +1,6 @@
-use Rattle.std.proofs.Common.{rules, ◌≡◌, ℕ, List, length, None, true, Result, OnErr, refl, sym, ◌∙◌, ap, subst}
+use Rattle.std.proofs.Common.{rules, ◌≡◌, length, None, true, OnErr, refl, sym, ◌∙◌, ap, subst}
 use Rattle.disk_model.specs.Disk.{Same}
 use Rattle.disk_model.proofs.Images.{settled_same}
-use Rattle.asset_keeper.specs.Table.{Table}
-use Rattle.repo_model.specs.declared.entry.Entry.{Entry}
 use Rattle.repo_model.specs.declared.reply.Reply.{Reply}
 use Rattle.repo_model.specs.declared.reply.Reply.TheVariants as reply
 use Rattle.repo_model.specs.State.{State}
@@ -10,9 +8,9 @@ use Rattle.repo_model.specs.Plain.{config_of}
 use Rattle.repo_model.specs.History.{Follows}
 use Rattle.repo_core.specs.Agree.{Agrees}
 use Rattle.repo_core.specs.Answers.{reply_of, is_denied}
-use Rattle.repo_core.specs.Puts.{put_call, upload_of, asset_of}
+use Rattle.repo_core.specs.Puts.{put_call, upload_of}
 use Rattle.repo_core.specs.Rows.{rows_in}
-use Rattle.repo_core.proofs.Runs.{nothing_ran, still_same, at_end}
+use Rattle.repo_core.proofs.Runs.{nothing_ran, still_same}
 use Rattle.repo_core.proofs.Givings.{crash_same}
 use Rattle.repo_core.proofs.Finishings.{next_done, follows_broken, not_broke}
 use Rattle.repo_core.proofs.Answering.{same_reply, if_refused, tells_map, if_taken}

@@ -1,4 +1,4 @@
-use Rattle.std.proofs.Common.{◌≡◌, ap}
+use Rattle.std.proofs.Common.{ap}
 use Rattle.disk_model.specs.Disk.{Tree, Lists}
 use Rattle.disk_model.proofs.Images.{settled_same}
 use Rattle.repo_core.proofs.repository.Core.end_get.Goals as goal

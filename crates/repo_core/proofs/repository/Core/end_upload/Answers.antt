@@ -1,4 +1,4 @@
-use Rattle.std.proofs.Common.{◌≡◌, refl}
+use Rattle.std.proofs.Common.{refl}
 use Rattle.disk_model.proofs.Images.{settled_same}
 use Rattle.repo_model.specs.Plain.{config_of}
 use Rattle.repo_core.specs.Rows.{rows_in}

@@ -1,8 +1,3 @@
-use Rattle.std.proofs.Common.{rules, ◌≡◌, refl, sym, ◌∙◌, ap, subst}
-use Rattle.repo_core.specs.View.{CoreView}
-use Rattle.repo_model.specs.State.{empty_state}
-use Rattle.repo_core.specs.Standing.{Tracks}
-use Rattle.repo_core.specs.Fresh.{fresh_core}
 use Rattle.repo_core.proofs.Beginnings.{tracks_empty}
 use Rattle.repo_core.proofs.repository.Core.fresh.Goals as goal
 

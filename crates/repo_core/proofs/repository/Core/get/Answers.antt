@@ -1,7 +1,6 @@
-use Rattle.std.proofs.Common.{rules, ◌≡◌, ℕ, List, length, slice_get, IfOk, Result, None, OnErr, refl, sym, ◌∙◌, ap, subst}
+use Rattle.std.proofs.Common.{rules, ◌≡◌, length, slice_get, Result, None, refl, sym, ◌∙◌, ap, subst}
 use Rattle.disk_model.specs.Disk.{Tree, Same}
 use Rattle.disk_model.proofs.Images.{settled_same}
-use Rattle.asset_keeper.specs.Told.{Tells}
 use Rattle.blob_files.specs.declared.download.Download.{Download}
 use Rattle.repo_model.specs.declared.call.Call.TheVariants as call
 use Rattle.repo_model.specs.declared.call.RemoteSaid.TheVariants as remote
@@ -15,7 +14,7 @@ use Rattle.repo_model.specs.Plain.{config_of}
 use Rattle.repo_core.specs.declared.given.Given.{Given}
 use Rattle.repo_core.specs.Agree.{Agrees}
 use Rattle.repo_core.specs.View.{CoreView}
-use Rattle.repo_core.specs.Answers.{answer_of, reply_of}
+use Rattle.repo_core.specs.Answers.{reply_of}
 use Rattle.repo_core.specs.Looking.{got_of, found_in}
 use Rattle.repo_core.specs.Got.{GotContent}
 use Rattle.repo_core.specs.Rows.{rows_in}
