@@ -14,6 +14,7 @@ use Rattle.repo_model.specs.State.{State}
 use Rattle.repo_model.specs.Outcome.{refused}
 use Rattle.repo_model.specs.Step.{outcome, sound_outcome}
 use Rattle.repo_model.specs.History.{Follows, refusal_of, is_begin}
+use Rattle.repo_core.specs.declared.denial.Denial.TheVariants as denial
 use Rattle.repo_core.specs.declared.stop.Stop.{Stop}
 use Rattle.repo_core.specs.declared.stop.Stop.TheVariants as stop
 use Rattle.repo_core.specs.Faults.{refusal_of_fault}
@@ -78,3 +79,24 @@ pub not_broke : {A : Type 0} (number : ℕ) (done : Result A Stop) (broken : Opt
 not_broke number (Ok value) broken is none = refl
 not_broke number (Err (stop.Denied why)) broken is none = refl
 not_broke number (Err (stop.Broke what)) broken is none = absurd (some_none (record { fault = what; entry = number }) (sym is ∙ none))
+
+-- damage is told where the work was denied for it
+pub damage_of : {A : Type 0} (done : Result A Stop) (said : Result A Refusal) (size : ℕ) (found : Option ℕ) → said ≡ answer_of done → said ≡ Err (refusal.Damaged size found)
+    → done ≡ Err (stop.Denied (denial.Damaged size found))
+damage_of {A} done said size found is says = from done (sym is ∙ says)
+  where
+    from : (d : Result A Stop) → answer_of d ≡ Err (refusal.Damaged size found) → d ≡ Err (stop.Denied (denial.Damaged size found))
+    from (Ok value) e = cc
+    from (Err (stop.Denied denial.NotFound)) e = cc
+    from (Err (stop.Denied denial.UnknownRepo)) e = cc
+    from (Err (stop.Denied (denial.WriteDenied policy))) e = cc
+    from (Err (stop.Denied denial.NoWritable)) e = cc
+    from (Err (stop.Denied (denial.IdTaken id))) e = cc
+    from (Err (stop.Denied denial.StampsUsed)) e = cc
+    from (Err (stop.Denied (denial.Damaged n o))) e = cc
+    from (Err (stop.Denied (denial.Failed fault.Disk))) e = cc
+    from (Err (stop.Denied (denial.Failed fault.Keeper))) e = cc
+    from (Err (stop.Denied (denial.Failed fault.Memory))) e = cc
+    from (Err (stop.Broke fault.Disk)) e = cc
+    from (Err (stop.Broke fault.Keeper)) e = cc
+    from (Err (stop.Broke fault.Memory)) e = cc

@@ -6,6 +6,7 @@ use disk_model::Disk;
 use repo_model::Journal;
 
 /// What a closed core leaves.
+#[derive(Drop)]
 pub struct Closed<D, T> {
     pub disk: D,
     pub table: T,

@@ -1,4 +1,4 @@
-ghost use Rattle.std.specs.Prelude.{◌≡◌, ◌∷◌, [], Err, OnErr, IsSome, Some, None, false};
+ghost use Rattle.std.specs.Prelude.{◌≡◌, ◌≢◌, ◌∷◌, [], ℕ, Option, Err, OnErr, IsSome, Some, None, false};
 ghost use Rattle.nx_io.specs.Causes.{HasCauseWhere};
 ghost use Rattle.disk_model.specs.Disk.{Same};
 ghost use Rattle.disk_model.specs.Moments.{During, EachImage};
@@ -52,6 +52,9 @@ impl<D: Disk, T: Keeper> Core<D, T> {
         ensures holds { self.new.holds ≡ self.old.holds }
         // Nothing is found only where the keeper found nothing.
         ensures not_found { result ≡ Err refusal.NotFound → T.found self.new.table ≡ false }
+        // Damage is told without a length, and never of files that agree.
+        ensures damaged { (size : ℕ) (found : Option ℕ) → result ≡ Err (refusal.Damaged size found) → found ≡ None }
+        ensures whole { D.told → IsSome (T.table self.new.table) → (s : State) → Tracks D.tree T.table self.old s → (size : ℕ) (found : Option ℕ) → result ≢ Err (refusal.Damaged size found) }
         ensures disk_cause { HasCauseWhere (RefusedBy IsDisk) (D.faults self.old.disk) (D.faults self.new.disk) result }
         ensures keeper_cause { HasCauseWhere (RefusedBy IsKeeper) (T.faults self.old.table) (T.faults self.new.table) result }
     {

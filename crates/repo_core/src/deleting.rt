@@ -1,4 +1,4 @@
-ghost use Rattle.std.specs.Prelude.{◌≡◌, ◌<◌, ◌^◌, ◌∷◌, [], true, false, codes, IfOk, IfErr, OnOk, OnErr, IsErrOf, IsSome, IsTrue, Some};
+ghost use Rattle.std.specs.Prelude.{◌≡◌, ◌<◌, ◌^◌, ◌∷◌, [], true, false, codes, IfOk, IfErr, OnOk, OnErr, IsErrOf, IsSome, IsTrue, Some, ℕ, Option, None};
 ghost use Rattle.nx_io.specs.Causes.{HasCauseWhere};
 ghost use Rattle.disk_model.specs.Disk.{Same, Rest};
 ghost use Rattle.disk_model.specs.Moments.{During, MayPut, EachImage};
@@ -49,6 +49,7 @@ fn row_to_delete<T: Keeper>(
     ensures cause { HasCauseWhere (DeniedBy IsKeeper) (T.faults table.old) (T.faults table.new) result }
     ensures keeper_alone { IfErr result (λ why. ¬ DeniedBy IsDisk why) }
     ensures not_found { IsErrOf result denial.NotFound → T.found table.new ≡ false }
+    ensures undamaged { (size : ℕ) (found : Option ℕ) → IsErrOf result (denial.Damaged size found) → ⊥ }
     ensures row { IsSome (T.table table.new) → (s : State) → s.broken ≡ None → rows_in (T.table table.old) ≡ s.rows → MayDelete (config_of config.now) s key.now now result }
 {
     let Some(repo) = find_repo(&config.repos, &key.repo) else {
@@ -165,6 +166,10 @@ pub(crate) fn give_up_row<D: Disk, T: Keeper>(
     ensures clean_own { is_denied result ≡ true → own.new ≡ own.old }
     ensures clean_rows { Tells (T.table table.old) (T.table table.new) (λ s t. is_denied result ≡ true → t ≡ s) }
     ensures not_found { IsErrOf result (stop.Denied denial.NotFound) → T.found table.new ≡ false }
+    // Damage is told without a length, and never of files that agree.
+    ensures damaged { (size : ℕ) (found : Option ℕ) → IsErrOf result (stop.Denied (denial.Damaged size found)) → found ≡ None }
+    ensures whole { D.told → IsSome (T.table table.new) → (s : State) → Agrees (config_of config.now) (D.tree disk.old) (rows_in (T.table table.old)) own.old s
+        → (size : ℕ) (found : Option ℕ) → IsErrOf result (stop.Denied (denial.Damaged size found)) → ⊥ }
     ensures disk_cause { HasCauseWhere (StoppedBy IsDisk) (D.faults disk.old) (D.faults disk.new) result }
     ensures keeper_cause { HasCauseWhere (StoppedBy IsKeeper) (T.faults table.old) (T.faults table.new) result }
 {

@@ -18,6 +18,7 @@ use repo_model::plain::PlainConfig;
 use std::alloc::Global;
 
 /// Devices over which no core was made, since memory was refused. Neither was called.
+#[derive(Drop)]
 pub struct NotOpen<D, T> {
     pub disk: D,
     pub table: T,

@@ -46,6 +46,8 @@ mod rules;
 mod staging;
 mod stop;
 mod telling;
+#[cfg(test)]
+mod tests;
 
 pub use closing::Closed;
 pub use denial::Denial;

@@ -8,6 +8,7 @@ use std::alloc::Global;
 use std::marker::Model;
 
 /// The repository over a disk and a keeper of rows.
+#[derive(Drop)]
 pub struct Core<D: Disk, T: Keeper> {
     pub(crate) alloc: Global,
     pub(crate) disk: D,

@@ -1,4 +1,4 @@
-use Rattle.std.proofs.Common.{◌≡◌, ℕ, Some, List, [], Err, codes, ⊎_elim, OnOk, refl, sym, ◌∙◌, ap, subst}
+use Rattle.std.proofs.Common.{◌≡◌, ℕ, Some, List, [], Err, codes, ⊎_elim, OnOk, refl, sym, ◌∙◌, ap, subst, Option, Result}
 use Rattle.std.specs.FinMap as map
 use Rattle.nx_base.specs.Order.{key_cmp}
 use Rattle.nx_base.specs.declared.asset.Asset.{Asset}
@@ -15,7 +15,11 @@ use Rattle.repo_model.specs.Plain.{config_of}
 use Rattle.repo_model.specs.Stamps.{time_of}
 use Rattle.repo_model.specs.Deleting.{without_row, discarded}
 use Rattle.tree_content.specs.Blobs.{props_at}
+use Rattle.repo_model.specs.declared.reply.Fault.{Fault}
 use Rattle.repo_core.specs.declared.denial.Denial.{Denial}
+use Rattle.repo_core.specs.declared.denial.Denial.TheVariants as denial
+use Rattle.repo_core.specs.declared.stop.Stop.{Stop}
+use Rattle.repo_core.specs.declared.stop.Stop.TheVariants as stop
 use Rattle.repo_core.specs.Ends.{Denies}
 use Rattle.repo_core.specs.Marks.{IsMarkOf}
 use Rattle.repo_core.specs.Rows.{rows_in}
@@ -147,3 +151,19 @@ returns-clause-crash g c = λ told some s a settled.
     crash_marked config (tree c.args.disk.now) s a.files key c.in-Ok.asset may.0 (call.Delete key c.args.now) g.D.Writer.Writer.content deleted at c.in-Ok-stage.staged.mark (subst (λ (t : ℕ). IsMarkOf g.D.Writer.Writer.content (tree c.args.disk.now) c.in-Ok.asset.blob deleted t c.in-Ok-stage.staged.mark) c.time.ensures (c.in-Ok-stage.ensures.mark told))
     g.D.Disk.clock g.D.Disk.lists c.args.disk.now c.stage.new.disk c.show.new.disk (without_row s key c.in-Ok.asset at) reply.Gone ([], may.1) refl refl settled
     (c.stage.ensures.any_moment told) (c.show.ensures.any_moment told)
+
+denied_so : (a b : Denial) (x y : Result (Unit {0}) Stop) → x ≡ Err (stop.Denied a) → y ≡ Err (stop.Denied b) → x ≡ y → a ≡ b
+denied_so a b x y p q e = cc
+
+failed_is_no_damage : (what : Fault) (size : ℕ) (found : Option ℕ) → denial.Failed what ≡ denial.Damaged size found → ⊥
+failed_is_no_damage what size found e = cc
+
+pub returns-in-Err-stage-clause-whole : goal.returns-in-Err-stage-clause-whole
+returns-in-Err-stage-clause-whole g c = λ told some s a size found is.
+    let config = config_of c.args.config.now in
+    let tree = g.D.Disk.tree c.args.disk.now in
+    let may = c.in-Ok.ensures.row some s a.sound a.rows_are in
+    ⊎_elim
+    (λ fault. failed_is_no_damage (of_disk fault.0) size found (sym fault.1 ∙ denied_so c.in-Err-stage.why (denial.Damaged size found) (Err (stop.Denied c.in-Err-stage.why)) (Err (stop.Denied (denial.Damaged size found))) refl refl is))
+    (λ bad. let r = is_readable config tree s a.files c.args.key.now c.in-Ok.asset may.0 in bad.1 told r.0 r.1 r.2 r.3)
+    c.in-Err-stage.ensures.denied
