@@ -28,6 +28,7 @@ mod options;
 mod parse;
 mod reason;
 mod refusal;
+mod refusal_words;
 mod response;
 mod target;
 mod words;
@@ -38,6 +39,7 @@ pub use framing::Framing;
 pub use head::{Head, read_head};
 pub use head_err::HeadErr;
 pub use method::Method;
+pub use refusal_words::RefusalWords;
 pub use response::{refusal_response, response_head};
 
 #[cfg(test)]

@@ -3,8 +3,7 @@ ghost use Rattle.http_heads.specs.Response.{line, why, status_line, type_line, l
 
 use crate::reason::reason;
 use itoa::Buffer;
-use nx_base::{ContentType, NoMemory};
-use std::alloc::Global;
+use nx_base::ContentType;
 
 // Writes a part at a place, and returns the place behind it.
 fn put(out: &mut [u8; 1024], at: usize, part: &[u8]) -> usize
@@ -96,7 +95,7 @@ fn put_head(
     closes: bool,
 ) -> usize
     requires { IfSome content_type (λ t. length t.now ≤ 255) }
-    ensures within { result ≤ 1024 }
+    ensures within { result ≤ 512 }
     ensures text { take result out.new ≡ head_of status (option_map (λ t. t.now) content_type.entry) size closes }
 {
     let at = put_status(out, status);
@@ -125,36 +124,23 @@ pub fn response_head(
     }
 }
 
-/// The response of a refusal: its word with its values as plain text and a line feed, or the head alone.
+/// Writes the response of a refusal and returns its length: its words as plain text and a line feed, or the head alone.
 pub fn refusal_response(
-    alloc: Global,
     status: u16,
-    words: &str,
+    words: &[u8],
     bare: bool,
     closes: bool,
-) -> Result<Vec<u8>, NoMemory>
-    ensures { IfOk result (λ bytes. bytes.items ≡ refused_with bare closes (why status words.now)) }
+    out: &mut [u8; 1024],
+) -> usize
+    requires { length words.now ≤ 128 }
+    ensures within { result ≤ 1024 }
+    ensures text { take result out.new ≡ refused_with bare closes (why status words.now) }
 {
-    let mut out = [0; 1024];
     let size = words.len() as u64 + 1;
-    let len = put_head(&mut out, status, Some(b"text/plain"), Some(size), closes);
-    let mut bytes = copied(alloc, &out[..len])?;
+    let at = put_head(out, status, Some(b"text/plain"), Some(size), closes);
     if bare {
-        return Ok(bytes);
+        return at;
     }
-    append(&mut bytes, words.as_bytes())?;
-    append(&mut bytes, b"\n")?;
-    Ok(bytes)
-}
-
-fn copied(alloc: Global, bytes: &[u8]) -> Result<Vec<u8>, NoMemory>
-    ensures { IfOk result (λ copy. copy.items ≡ bytes.now) }
-{
-    Vec::from_slice(alloc, bytes).map_err(|_| NoMemory)
-}
-
-fn append(bytes: &mut Vec<u8>, part: &[u8]) -> Result<(), NoMemory>
-    ensures { IfOk result (λ _. bytes.new.items ≡ bytes.old.items ++ part.now) }
-{
-    bytes.extend_from_slice(part).map_err(|_| NoMemory)
+    let at = put(out, at, words);
+    put(out, at, b"\n")
 }
