@@ -13,4 +13,6 @@ pub mod Fills
 pub mod Looks
 pub mod Reading
 pub mod Replying
+pub mod Handing
+pub mod Chains
 pub mod Sessions

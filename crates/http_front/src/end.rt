@@ -12,6 +12,8 @@ pub enum End {
     Cut,
     ReadFault,
     WriteFault,
+    /// A download failed in its middle.
+    DownloadFault,
     InputTooLong,
     NoMemory,
 }
@@ -35,7 +37,7 @@ impl End {
     {
         match unsaid {
             Unsaid::WriteFault => End::WriteFault,
-            Unsaid::NoMemory => End::NoMemory,
+            Unsaid::DownloadFault => End::DownloadFault,
         }
     }
 

@@ -18,6 +18,7 @@ mod begun;
 mod buffer;
 mod content_reader;
 mod end;
+mod fed;
 mod fill;
 mod halt;
 mod head_reader;
@@ -29,6 +30,7 @@ mod stop;
 
 pub use begun::Begun;
 pub use end::End;
+pub use fed::Fed;
 pub use laws::{output_is_said, rows_hold};
 pub use replies::{Replies, Unsaid};
 pub use session::run_session;

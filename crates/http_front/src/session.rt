@@ -1,4 +1,3 @@
-ghost use Rattle.http_front.specs.Replying.{Says};
 ghost use Rattle.http_front.specs.Sessions.{EndsAs, HasEndCause};
 
 use crate::begun::Begun;
@@ -17,7 +16,7 @@ pub fn run_session<R: Replies, S: Source, K: Sink>(
     input: &mut S,
     output: &mut K,
 ) -> End
-    ensures said { (says : Says) → R.Stands replies.old says → EndsAs result says (S.left input.old) (S.left input.new) (S.ended input.new) (K.taken output.old) (K.taken output.new) }
+    ensures said { EndsAs R.Answers R.Fails result replies.old replies.new (S.left input.old) (S.left input.new) (S.ended input.new) (K.taken output.old) (K.taken output.new) }
     ensures cause { HasEndCause result (S.faults input.old) (S.faults input.new) (K.faults output.old) (K.faults output.new) }
 {
     let mut buffer = Buffer::new(alloc);
@@ -25,28 +24,33 @@ pub fn run_session<R: Replies, S: Source, K: Sink>(
         let head = match next_head(alloc, input, &mut buffer) {
             NextHead::Head(head) => head,
             NextHead::Refused { why, bare } => {
-                return End::of_refusal(replies.refused(alloc, why, bare, output));
+                return End::of_refusal(replies.refused(why, bare, output));
             }
             NextHead::End { inside } => return End::of_input(inside),
             NextHead::Halt(halt) => return End::of_halt(halt),
         };
-        match replies.begin(alloc, &head, output) {
+        match replies.begin(&head, output) {
             Ok(Begun::Wanted) => {}
             Ok(Begun::Answered) => continue 'requests,
             Ok(Begun::Last) => return End::Closed,
             Err(unsaid) => return End::of_unsaid(unsaid),
         }
-        replies.cut(&head);
-        let content = match read_content(alloc, input, &mut buffer, head.framing) {
-            Content::Whole(content) => content,
-            Content::Stopped(why) => {
-                return End::of_refusal(replies.stopped(alloc, &head, why, output));
+        match read_content(replies, &head, input, &mut buffer, output) {
+            Content::Whole => {}
+            Content::Stopped(why) => return End::of_refusal(replies.stopped(&head, why, output)),
+            Content::Cut => {
+                replies.cut(&head);
+                return End::Cut;
             }
-            Content::Cut => return End::Cut,
-            Content::Halt(halt) => return End::of_halt(halt),
-        };
+            Content::Halt(halt) => {
+                replies.cut(&head);
+                return End::of_halt(halt);
+            }
+            Content::Last => return End::Closed,
+            Content::Unsaid(unsaid) => return End::of_unsaid(unsaid),
+        }
         let closes = head.closes;
-        if let Err(unsaid) = replies.whole(alloc, head, content, output) {
+        if let Err(unsaid) = replies.whole(head, output) {
             return End::of_unsaid(unsaid);
         }
         if closes {
