@@ -1,5 +1,3 @@
-mod Own
-mod Kept
 mod Profile
 mod Blanks
 mod Heads
