@@ -1,3 +1,8 @@
+pub mod Histories
+pub mod Growing
+pub mod Made
+pub mod SoundTurns
+pub mod OneOutcome
 mod Profile
 mod Blanks
 mod Heads
