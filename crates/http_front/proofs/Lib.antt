@@ -2,6 +2,8 @@ pub mod Histories
 pub mod Growing
 pub mod Made
 pub mod SoundTurns
+pub mod Own
+pub mod Kept
 pub mod OneOutcome
 mod Profile
 mod Blanks

@@ -1,9 +1,14 @@
 ghost use Rattle.http_front.specs.Rows.{RowsHold};
-ghost use Rattle.http_front.specs.TurnLaws.{TurnsAreLegal, SoundTurnsAreOutput, TurnsGoOn, OneOutcome};
+ghost use Rattle.http_front.specs.TurnLaws.{TurnsAreLegal, TurnsAreSaid, SoundTurnsAreOutput, TurnsGoOn, OneOutcome};
 
 /// The entries of a session's turns are a history of the repository.
 pub fn turns_are_legal()
     ensures { TurnsAreLegal }
+{}
+
+/// What is said in turns is what is said to their requests by all their entries.
+pub fn turns_are_said()
+    ensures { TurnsAreSaid }
 {}
 
 /// Turns in which nothing failed are those of the one-thread repository.
