@@ -1,5 +1,5 @@
 -- What is said in turns is said of all their entries, with the contents at the end.
-use Rattle.std.proofs.Common.{◌≡◌, ◌⊎◌, ℕ, ◌+◌, ◌≤◌, Bool, true, false, List, [], ◌∷◌, ◌++◌, length, find, is_some, IsTrue, Option, Some, None, refl, ap, sym, ◌∙◌, subst, inl, inr, arith, if◌then◌else◌, append_assoc, append-nil}
+use Rattle.std.proofs.Common.{◌≡◌, ◌⊎◌, ℕ, ◌+◌, ◌≤◌, Bool, true, false, List, [], ◌∷◌, ◌++◌, length, find, is_some, IsTrue, Option, Some, None, refl, ap, sym, ◌∙◌, inl, inr, arith, if◌then◌else◌, append_assoc, append-nil}
 use Rattle.std.specs.Option.{option_or}
 use Rattle.std.proofs.lemmas.List.Folds.{find-append}
 use Rattle.nx_base.specs.Given.{given}
@@ -21,7 +21,7 @@ use Rattle.http_front.specs.Entries.{own, others}
 use Rattle.http_front.specs.Answers.{Answer, behind, last_refusal, said_before, last_reply, reply_to, put_answer, unstopped, response_of}
 use Rattle.http_front.specs.Said.{said}
 use Rattle.http_front.specs.Served.{Serves}
-use Rattle.http_front.specs.Turns.{Setting, Turn, Makes, IsTurn, AreTurns, contents_after, answer_of, requests_of, entries_of, stops_of, turns_said}
+use Rattle.http_front.specs.Turns.{Setting, Turn, Makes, AreTurns, contents_after, answer_of, requests_of, entries_of, stops_of, turns_said}
 use Rattle.http_front.proofs.Own.{Splits, splits}
 
 -- more contents behind
@@ -101,7 +101,7 @@ none_fits (t ∷ ts) setting n number s new k l h (mid, is, end, rest) =
 none_behind : (t : Turn) (ts : List Turn) (k : Contents) (s : Stop) → t.stop ≡ Some s → ((answer_of k t).ends ≡ false) ⊎ (ts ≡ []) → entries_of ts ≡ []
 none_behind t ts k s e (inl goes) =
     let ends : (answer_of k t).ends ≡ true =
-        ap (λ (x : Option Stop). (response_of (contents_after t k) t.request x t.entries).ends) e ∙ stop_ends t.request s (contents_after t k) t.entries in
+    ap (λ (x : Option Stop). (response_of (contents_after t k) t.request x t.entries).ends) e ∙ stop_ends t.request s (contents_after t k) t.entries in
     cc
 none_behind t ts k s e (inr none) = ap entries_of none
 
@@ -123,12 +123,12 @@ pub turns_are_said : (ts : List Turn) (setting : Setting) (n number : ℕ) (s ne
 turns_are_said [] setting n number s new k l are = refl
 turns_are_said (t ∷ ts) setting n number s new k l (mid, is, end, rest) =
     let own : Splits t.request t.stop t.entries (entries_of ts) =
-        splits setting (setting.draws n) t.request t.stop number s t.entries mid (entries_of ts) is.makes
-        (λ h. none_fits ts setting (n + 1) (number + length t.entries) mid new (contents_after t k) l h rest)
-        (λ e. none_behind t ts k stops.NoMemory e end) in
+    splits setting (setting.draws n) t.request t.stop number s t.entries mid (entries_of ts) is.makes
+    (λ h. none_fits ts setting (n + 1) (number + length t.entries) mid new (contents_after t k) l h rest)
+    (λ e. none_behind t ts k stops.NoMemory e end) in
     let more : Grows (contents_after t k) l = grows ts setting (n + 1) (number + length t.entries) mid new (contents_after t k) l rest in
     let same : asset_content l (last_reply t.entries) ≡ asset_content (contents_after t k) (last_reply t.entries) =
-        ap (λ (c : Contents). asset_content c (last_reply t.entries)) more.1 ∙ kept (last_reply t.entries) (contents_after t k) more.0 is.served in
+    ap (λ (c : Contents). asset_content c (last_reply t.entries)) more.1 ∙ kept (last_reply t.entries) (contents_after t k) more.0 is.served in
     said_at t.request (requests_of ts) t.stop (stops_of ts) (t.entries ++ entries_of ts) t.entries (entries_of ts) l (answer_of k t)
     own.mine own.left (same_response t.request t.stop l (contents_after t k) t.entries same)
     ∙ ap (λ (x : List ℕ). (answer_of k t).bytes ++ x)

@@ -1,5 +1,5 @@
 -- What a request made where nothing failed is what the one-thread repository makes.
-use Rattle.std.proofs.Common.{◌≡◌, ◌⊎◌, ℕ, zero, suc, ◌+◌, ◌<◌, ◌≤◌, Bool, true, false, IsTrue, ◌&&◌, if◌then◌else◌, nat_le, List, [], ◌∷◌, ◌++◌, length, Option, Some, None, unwrap_or, refl, sym, ◌∙◌, ap, subst, inl, inr, arith, length-append}
+use Rattle.std.proofs.Common.{◌≡◌, ◌⊎◌, ℕ, zero, suc, ◌+◌, ◌<◌, ◌≤◌, Bool, true, false, IsTrue, if◌then◌else◌, nat_le, List, [], ◌∷◌, ◌++◌, length, Option, Some, None, unwrap_or, refl, sym, ◌∙◌, ap, subst, inl, inr, arith, length-append}
 use Rattle.std.proofs.lemmas.Bool.Decides.{nat_tests}
 use Rattle.nx_base.specs.Given.{given}
 use Rattle.nx_base.specs.declared.moment.Moment.{Moment}
@@ -18,7 +18,7 @@ use Rattle.http_requests.specs.Requests.{Item}
 use Rattle.http_front.specs.declared.stop.Stop.{Stop}
 use Rattle.http_front.specs.declared.stop.Stop.TheVariants as stops
 use Rattle.http_front.specs.Calls.{next_call, store_in}
-use Rattle.http_front.specs.Turns.{Setting, FollowsAt, IsNextEntry, Makes}
+use Rattle.http_front.specs.Turns.{Setting, FollowsAt, Makes}
 use Rattle.http_front.specs.Sound.{is_sound, AreSoundEntries}
 use Rattle.http_front.specs.Output.{done_by, entry_of, Made, with_entry, made_in}
 

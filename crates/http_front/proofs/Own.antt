@@ -1,5 +1,5 @@
 -- The entries of a turn are its request's own, in a list that they begin.
-use Rattle.std.proofs.Common.{◌≡◌, ◌⊎◌, ℕ, ◌+◌, ◌≤◌, Bool, true, false, ◌&&◌, if◌then◌else◌, List, [], ◌∷◌, ◌++◌, length, Option, Some, None, refl, sym, ap, subst, inl, inr, arith}
+use Rattle.std.proofs.Common.{◌≡◌, ℕ, ◌+◌, ◌≤◌, Bool, true, false, ◌&&◌, if◌then◌else◌, List, [], ◌∷◌, ◌++◌, length, Option, Some, None, refl, inl, inr, arith}
 use Rattle.nx_base.specs.declared.moment.Moment.{Moment}
 use Rattle.repo_model.specs.declared.call.Call.{Call}
 use Rattle.repo_model.specs.declared.entry.Entry.{Entry}

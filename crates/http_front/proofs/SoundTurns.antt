@@ -38,7 +38,8 @@ in_front_is t ts new k l rest is = record {
   entries = ap (λ es. t.entries ++ es) is.entries;
   bytes = ap (λ x. (answer_of k t).bytes ++ x) is.bytes;
   new_is = is.new_is;
-  contents_are = is.contents_are }
+  contents_are = is.contents_are;
+}
 
 pub sound_output : (ts : List Turn) (setting : Setting) (n number : ℕ) (s new : State) (k l : Contents)
     → AreTurns setting n number s k ts new l → AreSound ts → IsOutput (output_of setting n number s k (requests_of ts)) k ts new l
@@ -46,10 +47,10 @@ sound_output [] setting n number s new k l (e, f) sound = record { entries = ref
 sound_output (t ∷ ts) setting n number s new k l (mid, is, end, rest) (unstopped, good, sound) =
     let makes = subst (λ (x : Option Stop). Makes setting (setting.draws n) t.request x [] number s t.entries mid) unstopped is.makes in
     let made : made_by setting (setting.draws n) t.request number s ≡ record { entries = t.entries; new = mid } =
-        made_is 2 setting (setting.draws n) t.request [] number s t.entries mid (omega arith) makes good in
+    made_is 2 setting (setting.draws n) t.request [] number s t.entries mid (omega arith) makes good in
     let same : output_of setting n number s k (requests_of (t ∷ ts)) ≡ run_from setting n number k t.request (requests_of ts) (record { entries = t.entries; new = mid }) t.stop =
-        ap (λ (m : Made). run_from setting n number k t.request (requests_of ts) m None) made
-        ∙ ap (run_from setting n number k t.request (requests_of ts) (record { entries = t.entries; new = mid })) (sym unstopped) in
+    ap (λ (m : Made). run_from setting n number k t.request (requests_of ts) m None) made
+    ∙ ap (run_from setting n number k t.request (requests_of ts) (record { entries = t.entries; new = mid })) (sym unstopped) in
     subst (λ (o : Output). IsOutput o k (t ∷ ts) new l) (sym same)
     (in_front_is t ts new k l _
     (tail_is ts (answer_of k t).ends mid new (contents_after t k) l _ end
