@@ -4,6 +4,7 @@ pub mod Made
 pub mod SoundTurns
 pub mod Own
 pub mod Kept
+mod WorkedTurns
 pub mod OneOutcome
 mod Profile
 mod Blanks

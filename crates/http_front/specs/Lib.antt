@@ -10,6 +10,7 @@ pub mod Turns
 pub mod Sound
 pub mod Output
 pub mod TurnLaws
+pub mod TurnRows
 pub mod Rows
 pub mod Buffers
 pub mod Skips

@@ -1,5 +1,6 @@
 ghost use Rattle.http_front.specs.Rows.{RowsHold};
 ghost use Rattle.http_front.specs.TurnLaws.{TurnsAreLegal, TurnsAreSaid, SoundTurnsAreOutput, TurnsGoOn, OneOutcome};
+ghost use Rattle.http_front.specs.TurnRows.{TurnRowsHold};
 
 /// The entries of a session's turns are a history of the repository.
 pub fn turns_are_legal()
@@ -29,4 +30,9 @@ pub fn one_outcome()
 /// Worked rows: the words of refusals.
 pub fn rows_hold()
     ensures { RowsHold }
+{}
+
+/// Worked rows: the turns of some requests.
+pub fn turn_rows_hold()
+    ensures { TurnRowsHold }
 {}

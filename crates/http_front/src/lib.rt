@@ -32,7 +32,8 @@ mod stop;
 pub use begun::Begun;
 pub use end::End;
 pub use laws::{
-    one_outcome, rows_hold, sound_turns_are_output, turns_are_legal, turns_are_said, turns_go_on,
+    one_outcome, rows_hold, sound_turns_are_output, turn_rows_hold, turns_are_legal,
+    turns_are_said, turns_go_on,
 };
 pub use replies::{Replies, Unsaid};
 pub use session::run_session;
