@@ -2,6 +2,7 @@ pub mod Histories
 pub mod Growing
 pub mod Made
 pub mod SoundTurns
+pub mod OutputTurns
 pub mod Own
 pub mod Kept
 mod WorkedTurns

@@ -38,7 +38,7 @@ done_is config n s store e new (inr (inr damaged)) h =
     cc
 
 -- behind two entries there is no call
-none_behind : (d : List ℕ → List ℕ) (m : Moment) (q : Item) (stop : Option Stop) (done : List Entry) → 2 ≤ length done → next_call d m q stop done ≡ None
+pub none_behind : (d : List ℕ → List ℕ) (m : Moment) (q : Item) (stop : Option Stop) (done : List Entry) → 2 ≤ length done → next_call d m q stop done ≡ None
 none_behind d m q stop [] h = absurd (omega arith)
 none_behind d m q stop (e ∷ []) h = absurd (omega arith)
 none_behind d m q stop (e ∷ f ∷ done) h = refl

@@ -32,7 +32,7 @@ unchanged [] setting n number s new k l are e = are
 unchanged (t ∷ ts) setting n number s new k l are e = (cc, cc)
 
 -- a turn in front
-in_front_is : (t : Turn) (ts : List Turn) (new : State) (k l : Contents) (rest : Output) → IsOutput rest (contents_after t k) ts new l
+pub in_front_is : (t : Turn) (ts : List Turn) (new : State) (k l : Contents) (rest : Output) → IsOutput rest (contents_after t k) ts new l
     → IsOutput (in_front t.entries (answer_of k t) rest) k (t ∷ ts) new l
 in_front_is t ts new k l rest is = record {
   entries = ap (λ es. t.entries ++ es) is.entries;

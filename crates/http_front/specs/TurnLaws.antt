@@ -1,5 +1,5 @@
 -- What holds of the turns of a session.
-use Rattle.std.specs.Prelude.{◌≡◌, ℕ, ◌+◌, Bool, true, false, List, [], ◌∷◌, ◌++◌, length}
+use Rattle.std.specs.Prelude.{◌≡◌, ℕ, ◌+◌, Bool, true, false, List, [], ◌∷◌, ◌++◌, length, None}
 use Rattle.repo_model.specs.declared.call.Call.{Call}
 use Rattle.repo_model.specs.declared.call.Call.TheVariants as call
 use Rattle.repo_model.specs.declared.call.RemoteSaid.TheVariants as remote
@@ -8,10 +8,13 @@ use Rattle.repo_model.specs.State.{State}
 use Rattle.repo_model.specs.Step.{outcome}
 use Rattle.repo_model.specs.History.{LegalFrom}
 use Rattle.http_front.specs.Contents.{Contents}
+use Rattle.http_requests.specs.Requests.{Item}
+use Rattle.http_front.specs.Answers.{last_reply}
 use Rattle.http_front.specs.Said.{said}
-use Rattle.http_front.specs.Turns.{Setting, Turn, IsTurn, AreTurns, NoneEnds, contents_after, requests_of, entries_of, stops_of, turns_said}
+use Rattle.http_front.specs.Served.{Serves}
+use Rattle.http_front.specs.Turns.{Setting, Turn, IsTurn, AreTurns, NoneEnds, contents_after, answer_of, requests_of, entries_of, stops_of, turns_said}
 use Rattle.http_front.specs.Sound.{AreSound}
-use Rattle.http_front.specs.Output.{Output, output_of}
+use Rattle.http_front.specs.Output.{Output, made_by, output_of}
 
 -- the entries of turns are a history of the repository
 abbrev pub TurnsAreLegal : Type 0
@@ -40,6 +43,32 @@ SoundTurnsAreOutput =
     (setting : Setting) (n number : ℕ) (state new : State) (contents contents' : Contents) (turns : List Turn)
     → AreTurns setting n number state contents turns new contents' → AreSound turns
     → IsOutput (output_of setting n number state contents (requests_of turns)) contents turns new contents'
+
+-- at each request of a run the content that it gives out is there
+abbrev pub AllServed : Setting → ℕ → ℕ → State → Contents → List Item → Type 0
+AllServed setting n number state contents [] = Unit {0}
+AllServed setting n number state contents (request ∷ requests) =
+    let made = made_by setting (setting.draws n) request number state in
+    let turn : Turn = record { request = request; stop = None; entries = made.entries } in
+    let new = contents_after turn contents in
+    Serves new (last_reply turn.entries)
+    × ((answer_of contents turn).ends ≡ false → AllServed setting (n + 1) (number + length made.entries) made.new new requests)
+
+-- a run is that of turns of the first of the requests, and of all unless it ends before
+pub record HasTurns (output : Output) (setting : Setting) (n number : ℕ) (state : State) (contents : Contents) (requests : List Item) : Type 0 where
+  pub turns : List Turn
+  pub rest : List Item
+  pub parts : requests ≡ requests_of turns ++ rest
+  pub all : output.ends ≡ false → rest ≡ []
+  pub are : AreTurns setting n number state contents turns output.new output.contents
+  pub is : IsOutput output contents turns output.new output.contents
+
+-- what the one-thread repository makes of requests are turns: it answers as a repository may
+abbrev pub OutputIsTurns : Type 0
+OutputIsTurns =
+    (setting : Setting) (n number : ℕ) (state : State) (contents : Contents) (requests : List Item)
+    → AllServed setting n number state contents requests
+    → HasTurns (output_of setting n number state contents requests) setting n number state contents requests
 
 -- one more turn behind turns that don't end the session
 abbrev pub TurnsGoOn : Type 0
