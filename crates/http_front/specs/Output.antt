@@ -65,8 +65,8 @@ abbrev pub in_front : List Entry → Answer → Output → Output
 in_front entries answer rest =
     record { entries = entries ++ rest.entries; bytes = answer.bytes ++ rest.bytes; new = rest.new; contents = rest.contents; ends = rest.ends }
 
--- the requests in their order, up to the first whose answer ends the session. Before them n moments were drawn, and the journal has
--- so many entries.
+-- the requests in their order, up to the first whose answer ends the session. Before them n moments were drawn, and `number` entries
+-- stand in the journal.
 abbrev pub output_of : Setting → ℕ → ℕ → State → Contents → List Item → Output
 output_of setting n number state contents [] = at_end false state contents
 output_of setting n number state contents (request ∷ requests) =

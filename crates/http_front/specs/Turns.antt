@@ -14,8 +14,8 @@ use Rattle.http_front.specs.Answers.{Answer, last_reply, response_of}
 use Rattle.http_front.specs.Served.{Serves}
 use Rattle.http_front.specs.Calls.{next_call, store_in}
 
--- what a session runs under: the configuration, the digest of contents (SHA-1), the moments that it draws, by number, and how many
--- entries the journal takes
+-- what a session runs under: the configuration, the digest of contents (SHA-1), the moments that it draws, one for each request, by
+-- number, and how many entries the journal takes
 pub record Setting : Type 0 where
   pub config : Config
   pub digest : List ℕ → List ℕ
