@@ -1,26 +1,27 @@
--- What a run says is said of its own entries.
-use Rattle.std.proofs.Common.{◌≡◌, ℕ, ◌+◌, Bool, true, false, List, [], ◌∷◌, ◌++◌, find, is_some, IsTrue, Option, Some, None, refl, ap, sym, ◌∙◌, if◌then◌else◌, append_assoc, append-nil}
+-- What is said in turns is said of all their entries, with the contents at the end.
+use Rattle.std.proofs.Common.{◌≡◌, ◌⊎◌, ℕ, ◌+◌, ◌≤◌, Bool, true, false, List, [], ◌∷◌, ◌++◌, length, find, is_some, IsTrue, Option, Some, None, refl, ap, sym, ◌∙◌, inl, inr, arith, if◌then◌else◌, append_assoc, append-nil}
 use Rattle.std.specs.Option.{option_or}
 use Rattle.std.proofs.lemmas.List.Folds.{find-append}
+use Rattle.nx_base.specs.Given.{given}
 use Rattle.nx_base.specs.declared.blob_ref.BlobRef.{BlobRef}
-use Rattle.nx_base.specs.declared.moment.Moment.{Moment}
 use Rattle.repo_model.specs.declared.entry.Entry.{Entry}
 use Rattle.repo_model.specs.declared.reply.Reply.{Reply}
 use Rattle.repo_model.specs.declared.reply.Reply.TheVariants as reply
-use Rattle.repo_model.specs.Config.{Config}
 use Rattle.repo_model.specs.State.{State}
 use Rattle.repo_model.specs.Removal.{same_blob}
-use Rattle.http_heads.specs.declared.method.Method.{Method}
-use Rattle.http_heads.specs.declared.method.Method.TheVariants as methods
 use Rattle.http_heads.specs.declared.head.Head.{Head}
 use Rattle.http_requests.specs.Requests.{Item, refused, whole, stopped, cut}
 use Rattle.http_heads.specs.Head.{is_put}
+use Rattle.http_front.specs.Asking.{is_bare}
+use Rattle.http_front.specs.declared.stop.Stop.{Stop}
+use Rattle.http_front.specs.declared.stop.Stop.TheVariants as stops
+use Rattle.http_front.specs.Responses.{why_stopped}
 use Rattle.http_front.specs.Contents.{Contents, asset_content, with_content}
 use Rattle.http_front.specs.Entries.{own, others}
-use Rattle.http_front.specs.Answers.{Answer, last_reply, reply_to, put_answer, response_of}
+use Rattle.http_front.specs.Answers.{Answer, behind, last_refusal, said_before, last_reply, reply_to, put_answer, unstopped, response_of}
 use Rattle.http_front.specs.Said.{said}
-use Rattle.http_front.specs.Output.{Draws, Made, Output, begun_as, asked_for, made_by, after, output_of}
-use Rattle.http_front.specs.Served.{Serves, AllServed}
+use Rattle.http_front.specs.Served.{Serves}
+use Rattle.http_front.specs.Turns.{Setting, Turn, Makes, AreTurns, contents_after, answer_of, requests_of, entries_of, stops_of, turns_said}
 use Rattle.http_front.proofs.Own.{Splits, splits}
 
 -- more contents behind
@@ -28,58 +29,23 @@ use Rattle.http_front.proofs.Own.{Splits, splits}
 abbrev Grows : Contents → Contents → Type 0
 Grows k l = (more : Contents) × (l ≡ k ++ more)
 
-stays : (k : Contents) → Grows k k
-stays k = ([], sym (append-nil k))
-
 further : (k l m : Contents) → Grows k l → Grows l m → Grows k m
 further k l m (x, e) (y, f) = (x ++ y, f ∙ ap (λ (z : Contents). z ++ y) e ∙ append_assoc k x y)
 
 joined : (r : Reply) (c : List ℕ) (k : Contents) → Grows k (with_content r c k)
 joined (reply.Stored asset) c k = ((asset.blob, c) ∷ [], refl)
-joined (reply.Found asset) c k = stays k
-joined (reply.Begun store) c k = stays k
-joined reply.Gone c k = stays k
-joined reply.Removed c k = stays k
-joined (reply.Reconciled kept) c k = stays k
-joined (reply.Refused r) c k = stays k
+joined (reply.Found asset) c k = ([], sym (append-nil k))
+joined (reply.Begun store) c k = ([], sym (append-nil k))
+joined reply.Gone c k = ([], sym (append-nil k))
+joined reply.Removed c k = ([], sym (append-nil k))
+joined (reply.Reconciled kept) c k = ([], sym (append-nil k))
+joined (reply.Refused r) c k = ([], sym (append-nil k))
 
-began : (r : Reply) (c : Option (List ℕ)) (m : Made) (go : List ℕ → List ℕ → Made) (k : Contents)
-    → Grows k m.contents → ((x y : List ℕ) → Grows k (go x y).contents) → Grows k (begun_as r c m go).contents
-began (reply.Begun store) (Some c) m go k a b = b c store
-began (reply.Begun store) None m go k a b = a
-began (reply.Stored asset) c m go k a b = a
-began (reply.Found asset) c m go k a b = a
-began reply.Gone c m go k a b = a
-began reply.Removed c m go k a b = a
-began (reply.Reconciled kept) c m go k a b = a
-began (reply.Refused r) c m go k a b = a
-
-asked_grows : (config : Config) (d : List ℕ → List ℕ) (s : State) (k : Contents) (m : Moment) (a : Head) (c : Option (List ℕ)) (method : Method)
-    → Grows k (asked_for config d s k m a c method).contents
-asked_grows config d s k m a c methods.Get = stays k
-asked_grows config d s k m a c methods.Head = stays k
-asked_grows config d s k m a c methods.Delete = stays k
-asked_grows config d s k m a c methods.Put = began _ c _ _ k (stays k) (λ x y. joined _ x k)
-
-made_grows : (config : Config) (d : List ℕ → List ℕ) (s : State) (k : Contents) (m : Moment) (q : Item) → Grows k (made_by config d s k m q).contents
-made_grows config d s k m (refused w bare) = stays k
-made_grows config d s k m (whole a c) = asked_grows config d s k m a (Some c) a.method
-made_grows config d s k m (stopped a c w) = asked_grows config d s k m a None a.method
-made_grows config d s k m (cut a c) = asked_grows config d s k m a None a.method
-
-after_grows : (k : Contents) (made : Made) (bytes : List ℕ) (e : Bool) (rest : Output) → Grows k made.contents → Grows k rest.contents
-    → Grows k (after made (record { bytes = bytes; ends = e }) rest).contents
-after_grows k made bytes true rest x y = x
-after_grows k made bytes false rest x y = y
-
-grows : (qs : List Item) (config : Config) (d : List ℕ → List ℕ) (draws : Draws) (n : ℕ) (s : State) (k : Contents)
-    → Grows k (output_of config d draws n s k qs).contents
-grows [] config d draws n s k = stays k
-grows (q ∷ qs) config d draws n s k =
-    let made : Made = made_by config d s k (draws n) q in
-    let a : Answer = response_of made.contents q None made.entries in
-    let x : Grows k made.contents = made_grows config d s k (draws n) q in
-    after_grows k made a.bytes a.ends _ x (further k made.contents _ x (grows qs config d draws (n + 1) made.new made.contents))
+grows : (ts : List Turn) (setting : Setting) (n number : ℕ) (s new : State) (k l : Contents) → AreTurns setting n number s k ts new l → Grows k l
+grows [] setting n number s new k l (e, f) = ([], f ∙ sym (append-nil k))
+grows (t ∷ ts) setting n number s new k l (mid, is, end, rest) =
+    further k (contents_after t k) l (joined (last_reply t.entries) _ k)
+    (grows ts setting (n + 1) (number + length t.entries) mid new (contents_after t k) l rest)
 
 -- what was found first stays first
 
@@ -102,44 +68,69 @@ kept (reply.Refused r) k more h = refl
 same_reply : (k l : Contents) (a : Head) (r : Reply) → asset_content k r ≡ asset_content l r → reply_to k a r ≡ reply_to l a r
 same_reply k l a r e = rw e refl
 
-same_response : (q : Item) (k l : Contents) (es : List Entry) → asset_content k (last_reply es) ≡ asset_content l (last_reply es) → response_of k q None es ≡ response_of l q None es
+same_unstopped : (q : Item) (k l : Contents) (es : List Entry) → asset_content k (last_reply es) ≡ asset_content l (last_reply es) → unstopped k q es ≡ unstopped l q es
+same_unstopped (refused w bare) k l es e = refl
+same_unstopped (whole a c) k l es e = ap (λ (x : Answer). if is_put a.method then put_answer a es x else x) (same_reply k l a (last_reply es) e)
+same_unstopped (stopped a c w) k l es e = refl
+same_unstopped (cut a c) k l es e = refl
+
+same_response : (q : Item) (stop : Option Stop) (k l : Contents) (es : List Entry) → asset_content k (last_reply es) ≡ asset_content l (last_reply es)
+    → response_of k q stop es ≡ response_of l q stop es
 unfolding response_of
-same_response (refused w bare) k l es e = refl
-same_response (whole a c) k l es e = ap (λ (x : Answer). if is_put a.method then put_answer a es x else x) (same_reply k l a (last_reply es) e)
-same_response (stopped a c w) k l es e = refl
-same_response (cut a c) k l es e = refl
+same_response q stop k l es e =
+    ap (λ (x : Answer). given stop x (λ (s : Stop). behind (said_before q es) (last_refusal (is_bare q) (why_stopped s)))) (same_unstopped q k l es e)
+
+stop_ends : (q : Item) (s : Stop) (k : Contents) (es : List Entry) → (response_of k q (Some s) es).ends ≡ true
+unfolding response_of
+stop_ends q s k es = refl
+
+-- in a full journal no turn has an entry
+makes_none : (setting : Setting) (t : Turn) (n number : ℕ) (s new : State) (es : List Entry) → setting.room ≤ number
+    → Makes setting (setting.draws n) t.request t.stop [] number s es new → es ≡ []
+makes_none setting t n number s new [] h makes = refl
+makes_none setting t n number s new (e ∷ es) h (mid, here, rest) = absurd (omega (arith, here.fits))
+
+none_fits : (ts : List Turn) (setting : Setting) (n number : ℕ) (s new : State) (k l : Contents) → setting.room ≤ number
+    → AreTurns setting n number s k ts new l → entries_of ts ≡ []
+none_fits [] setting n number s new k l h are = refl
+none_fits (t ∷ ts) setting n number s new k l h (mid, is, end, rest) =
+    ap (λ (es : List Entry). es ++ entries_of ts) (makes_none setting t n number s mid t.entries h is.makes)
+    ∙ none_fits ts setting (n + 1) (number + length t.entries) mid new (contents_after t k) l (omega arith) rest
+
+-- behind a stop no turn comes
+none_behind : (t : Turn) (ts : List Turn) (k : Contents) (s : Stop) → t.stop ≡ Some s → ((answer_of k t).ends ≡ false) ⊎ (ts ≡ []) → entries_of ts ≡ []
+none_behind t ts k s e (inl goes) =
+    let ends : (answer_of k t).ends ≡ true =
+    ap (λ (x : Option Stop). (response_of (contents_after t k) t.request x t.entries).ends) e ∙ stop_ends t.request s (contents_after t k) t.entries in
+    cc
+none_behind t ts k s e (inr none) = ap entries_of none
 
 -- one request of the fold
+said_at : (q : Item) (qs : List Item) (stop : Option Stop) (stops : List (Option Stop)) (es mine left : List Entry) (k : Contents) (a : Answer)
+    → own q stop es ≡ mine → others q stop es ≡ left → response_of k q stop mine ≡ a
+    → said (q ∷ qs) es k (stop ∷ stops) ≡ a.bytes ++ (if a.ends then [] else said qs left k stops)
+said_at q qs stop stops es mine left k a x y z = rw (x, y, z) refl
 
-said_at : (q : Item) (qs : List Item) (es mine left : List Entry) (k : Contents) (bytes : List ℕ) (e : Bool)
-    → own q None es ≡ mine → others q None es ≡ left → response_of k q None mine ≡ record { bytes = bytes; ends = e }
-    → said (q ∷ qs) es k [] ≡ bytes ++ (if e then [] else said qs left k [])
-said_at q qs es mine left k bytes e a b c = rw (a, b, c) refl
+-- what is said behind it
+rest_said : (b : Bool) (ts : List Turn) (k : Contents) (rest : List ℕ) → (b ≡ false) ⊎ (ts ≡ []) → rest ≡ turns_said k ts
+    → (if b then [] else rest) ≡ turns_said k ts
+rest_said false ts k rest end e = e
+rest_said true ts k rest (inl x) e = cc
+rest_said true ts k rest (inr x) e = sym (ap (turns_said k) x)
 
-step : (q : Item) (qs : List Item) (made : Made) (bytes : List ℕ) (e : Bool) (rest : Output)
-    → ((r : List Entry) → Splits q made.entries r)
-    → ((more : Contents) → response_of (made.contents ++ more) q None made.entries ≡ record { bytes = bytes; ends = e })
-    → Grows made.contents rest.contents
-    → said qs rest.entries rest.contents [] ≡ rest.bytes
-    → said (q ∷ qs) (after made (record { bytes = bytes; ends = e }) rest).entries (after made (record { bytes = bytes; ends = e }) rest).contents []
-    ≡ (after made (record { bytes = bytes; ends = e }) rest).bytes
-step q qs made bytes true rest f g x y =
-    let at : Splits q made.entries [] = f [] in
-    let here : response_of made.contents q None made.entries ≡ record { bytes = bytes; ends = true } = rw append-nil at (g []) in
-    said_at q qs made.entries made.entries [] made.contents bytes true (rw append-nil at at.mine) (rw append-nil at at.left) here ∙ append-nil bytes
-step q qs made bytes false rest f g (more, x) y =
-    let at : Splits q made.entries rest.entries = f rest.entries in
-    let here : response_of rest.contents q None made.entries ≡ record { bytes = bytes; ends = false } = rw x (g more) in
-    said_at q qs (made.entries ++ rest.entries) made.entries rest.entries rest.contents bytes false at.mine at.left here ∙ ap (λ (z : List ℕ). bytes ++ z) y
-
-pub law : (qs : List Item) (config : Config) (d : List ℕ → List ℕ) (draws : Draws) (n : ℕ) (s : State) (k : Contents)
-    → AllServed config d draws n s k qs
-    → said qs (output_of config d draws n s k qs).entries (output_of config d draws n s k qs).contents [] ≡ (output_of config d draws n s k qs).bytes
-law [] config d draws n s k h = refl
-law (q ∷ qs) config d draws n s k (x, y) =
-    let made : Made = made_by config d s k (draws n) q in
-    let a : Answer = response_of made.contents q None made.entries in
-    let rest : Output = output_of config d draws (n + 1) made.new made.contents qs in
-    step q qs made a.bytes a.ends rest (λ r. splits config d s k (draws n) r q)
-    (λ more. same_response q (made.contents ++ more) made.contents made.entries (kept (last_reply made.entries) made.contents more x))
-    (grows qs config d draws (n + 1) made.new made.contents) (law qs config d draws (n + 1) made.new made.contents y)
+pub turns_are_said : (ts : List Turn) (setting : Setting) (n number : ℕ) (s new : State) (k l : Contents)
+    → AreTurns setting n number s k ts new l → said (requests_of ts) (entries_of ts) l (stops_of ts) ≡ turns_said k ts
+turns_are_said [] setting n number s new k l are = refl
+turns_are_said (t ∷ ts) setting n number s new k l (mid, is, end, rest) =
+    let own : Splits t.request t.stop t.entries (entries_of ts) =
+    splits setting (setting.draws n) t.request t.stop number s t.entries mid (entries_of ts) is.makes
+    (λ h. none_fits ts setting (n + 1) (number + length t.entries) mid new (contents_after t k) l h rest)
+    (λ e. none_behind t ts k stops.NoMemory e end) in
+    let more : Grows (contents_after t k) l = grows ts setting (n + 1) (number + length t.entries) mid new (contents_after t k) l rest in
+    let same : asset_content l (last_reply t.entries) ≡ asset_content (contents_after t k) (last_reply t.entries) =
+    ap (λ (c : Contents). asset_content c (last_reply t.entries)) more.1 ∙ kept (last_reply t.entries) (contents_after t k) more.0 is.served in
+    said_at t.request (requests_of ts) t.stop (stops_of ts) (t.entries ++ entries_of ts) t.entries (entries_of ts) l (answer_of k t)
+    own.mine own.left (same_response t.request t.stop l (contents_after t k) t.entries same)
+    ∙ ap (λ (x : List ℕ). (answer_of k t).bytes ++ x)
+    (rest_said (answer_of k t).ends ts (contents_after t k) (said (requests_of ts) (entries_of ts) l (stops_of ts)) end
+    (turns_are_said ts setting (n + 1) (number + length t.entries) mid new (contents_after t k) l rest))

@@ -1,5 +1,12 @@
-mod Own
-mod Kept
+pub mod Histories
+pub mod Growing
+pub mod Made
+pub mod SoundTurns
+pub mod OutputTurns
+pub mod Own
+pub mod Kept
+mod WorkedTurns
+pub mod OneOutcome
 mod Profile
 mod Blanks
 mod Heads

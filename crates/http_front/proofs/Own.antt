@@ -1,93 +1,86 @@
--- The entries that a request made are its own in a list that they begin.
-use Rattle.std.proofs.Common.{◌≡◌, ℕ, true, false, ◌&&◌, List, [], ◌∷◌, ◌++◌, Some, None, refl, sym, subst, length}
+-- The entries of a turn are its request's own, in a list that they begin.
+use Rattle.std.proofs.Common.{◌≡◌, ℕ, ◌+◌, ◌≤◌, Bool, true, false, ◌&&◌, if◌then◌else◌, List, [], ◌∷◌, ◌++◌, length, Option, Some, None, refl, inl, inr, arith}
 use Rattle.nx_base.specs.declared.moment.Moment.{Moment}
-use Rattle.repo_model.specs.declared.call.Begin.{Begin}
 use Rattle.repo_model.specs.declared.call.Call.{Call}
-use Rattle.repo_model.specs.declared.call.Call.TheVariants as call
-use Rattle.repo_model.specs.declared.call.Kind.TheVariants as kind
 use Rattle.repo_model.specs.declared.entry.Entry.{Entry}
-use Rattle.repo_model.specs.declared.reply.Reply.{Reply}
-use Rattle.repo_model.specs.declared.reply.Reply.TheVariants as reply
-use Rattle.repo_model.specs.Config.{Config}
 use Rattle.repo_model.specs.State.{State}
-use Rattle.http_heads.specs.declared.method.Method.{Method}
-use Rattle.http_heads.specs.declared.method.Method.TheVariants as methods
-use Rattle.http_heads.specs.declared.head.Head.{Head}
 use Rattle.http_requests.specs.Requests.{Item, refused, whole, stopped, cut}
-use Rattle.http_front.specs.Contents.{Contents}
+use Rattle.http_front.specs.declared.stop.Stop.{Stop}
+use Rattle.http_front.specs.declared.stop.Stop.TheVariants as stops
 use Rattle.http_front.specs.Entries.{begins, goes_on, asks_nothing, own, others}
-use Rattle.http_front.specs.Output.{Made, done_by, entry_of, begun_as, committed, asked_for, made_by}
+use Rattle.http_front.specs.Calls.{call_of, put_of, next_call}
+use Rattle.http_front.specs.Turns.{Setting, Makes}
 
 -- in front of the rest stand the request's own entries
-pub record Splits (q : Item) (made rest : List Entry) : Type 0 where
-  pub mine : own q None (made ++ rest) ≡ made
-  pub left : others q None (made ++ rest) ≡ rest
+pub record Splits (q : Item) (stop : Option Stop) (made rest : List Entry) : Type 0 where
+  pub mine : own q stop (made ++ rest) ≡ made
+  pub left : others q stop (made ++ rest) ≡ rest
 
-pub one : (q : Item) (e : Entry) (rest : List Entry) → asks_nothing q ≡ false → (begins e && goes_on q None) ≡ false → Splits q (e ∷ []) rest
-one q e rest a b = record { mine = rw (a, b) refl; left = rw (a, b) refl }
+-- none
+at_end : (q : Item) (stop : Option Stop) (rest : List Entry) → rest ≡ [] → Splits q stop [] rest
+at_end q stop [] e = record { mine = refl; left = refl }
+at_end q stop (x ∷ rest) e = cc
 
-pub two : (q : Item) (e f : Entry) (rest : List Entry) → asks_nothing q ≡ false → (begins e && goes_on q None) ≡ true → Splits q (e ∷ f ∷ []) rest
-two q e f rest a b = record { mine = rw (a, b) refl; left = rw (a, b) refl }
+none : (q : Item) (stop : Option Stop) (rest : List Entry) → asks_nothing q ≡ true → Splits q stop [] rest
+none q stop [] a = record { mine = refl; left = refl }
+none q stop (e ∷ rest) a = record { mine = rw a refl; left = rw a refl }
 
-none : (q : Item) (rest : List Entry) → asks_nothing q ≡ true → Splits q [] rest
-none q [] a = record { mine = refl; left = refl }
-none q (e ∷ rest) a = record { mine = rw a refl; left = rw a refl }
+-- one
+one : (q : Item) (stop : Option Stop) (e : Entry) (rest : List Entry) → asks_nothing q ≡ false → (begins e && goes_on q stop) ≡ false → Splits q stop (e ∷ []) rest
+one q stop e rest a b = record { mine = rw (a, b) refl; left = rw (a, b) refl }
 
-abbrev first_of : Begin → Reply → Entry
-first_of b r = record { caller = 0; call = call.Begin b; reply = r }
+alone : (q : Item) (stop : Option Stop) (e : Entry) (rest : List Entry) (b : Bool) → asks_nothing q ≡ false → (begins e && goes_on q stop) ≡ b → rest ≡ [] → Splits q stop (e ∷ []) rest
+alone q stop e rest false a b none = one q stop e rest a b
+alone q stop e [] true a b none = record { mine = rw (a, b) refl; left = rw (a, b) refl }
+alone q stop e (x ∷ rest) true a b none = cc
 
--- behind the beginning of an upload whose content came whole
-began : (a : Head) (c : List ℕ) (b : Begin) (r : Reply) (go : List ℕ → List ℕ → Made) (f : List ℕ → List ℕ → Entry) (s : State) (k : Contents) (rest : List Entry)
-    → ((x y : List ℕ) → (go x y).entries ≡ first_of b r ∷ f x y ∷ [])
-    → Splits (whole a c) (begun_as r (Some c) (record { entries = first_of b r ∷ []; new = s; contents = k }) go).entries rest
-began a c b (reply.Begun store) go f s k rest e =
-    subst (λ (m : List Entry). Splits (whole a c) m rest) (sym (e c store)) (two (whole a c) (first_of b (reply.Begun store)) (f c store) rest refl refl)
-began a c b (reply.Stored asset) go f s k rest e = one (whole a c) (first_of b (reply.Stored asset)) rest refl refl
-began a c b (reply.Found asset) go f s k rest e = one (whole a c) (first_of b (reply.Found asset)) rest refl refl
-began a c b reply.Gone go f s k rest e = one (whole a c) (first_of b reply.Gone) rest refl refl
-began a c b reply.Removed go f s k rest e = one (whole a c) (first_of b reply.Removed) rest refl refl
-began a c b (reply.Reconciled kept) go f s k rest e = one (whole a c) (first_of b (reply.Reconciled kept)) rest refl refl
-began a c b (reply.Refused why) go f s k rest e = one (whole a c) (first_of b (reply.Refused why)) rest refl refl
+-- two
+two : (q : Item) (stop : Option Stop) (e f : Entry) (rest : List Entry) → asks_nothing q ≡ false → (begins e && goes_on q stop) ≡ true → Splits q stop (e ∷ f ∷ []) rest
+two q stop e f rest a b = record { mine = rw (a, b) refl; left = rw (a, b) refl }
 
--- of which no content came
-alone : (q : Item) (b : Begin) (r : Reply) (go : List ℕ → List ℕ → Made) (s : State) (k : Contents) (rest : List Entry)
-    → asks_nothing q ≡ false → goes_on q None ≡ false
-    → Splits q (begun_as r None (record { entries = first_of b r ∷ []; new = s; contents = k }) go).entries rest
-alone q b (reply.Begun store) go s k rest e g = one q (first_of b (reply.Begun store)) rest e g
-alone q b (reply.Stored asset) go s k rest e g = one q (first_of b (reply.Stored asset)) rest e refl
-alone q b (reply.Found asset) go s k rest e g = one q (first_of b (reply.Found asset)) rest e refl
-alone q b reply.Gone go s k rest e g = one q (first_of b reply.Gone) rest e refl
-alone q b reply.Removed go s k rest e g = one q (first_of b reply.Removed) rest e refl
-alone q b (reply.Reconciled kept) go s k rest e g = one q (first_of b (reply.Reconciled kept)) rest e refl
-alone q b (reply.Refused why) go s k rest e g = one q (first_of b (reply.Refused why)) rest e refl
+-- a request that makes no call, and one that makes one
+silent : (m : Moment) (q : Item) → call_of m q ≡ None → asks_nothing q ≡ true
+silent m (refused w bare) e = refl
+silent m (whole a c) e = cc
+silent m (stopped a c w) e = cc
+silent m (cut a c) e = cc
 
-abbrev begin_of : Head → Begin
-begin_of a = record { key = a.key; content_type = a.content_type; kind = kind.Put }
+asks : (m : Moment) (q : Item) (x : Call) → call_of m q ≡ Some x → asks_nothing q ≡ false
+asks m (refused w bare) x e = cc
+asks m (whole a c) x e = refl
+asks m (stopped a c w) x e = refl
+asks m (cut a c) x e = refl
 
-on_whole : (config : Config) (d : List ℕ → List ℕ) (s : State) (k : Contents) (m : Moment) (a : Head) (c : List ℕ) (rest : List Entry) (method : Method)
-    → Splits (whole a c) (asked_for config d s k m a (Some c) method).entries rest
-on_whole config d s k m a c rest methods.Get = one (whole a c) _ rest refl refl
-on_whole config d s k m a c rest methods.Head = one (whole a c) _ rest refl refl
-on_whole config d s k m a c rest methods.Delete = one (whole a c) _ rest refl refl
-on_whole config d s k m a c rest methods.Put =
-    let done = done_by config s [] (call.Begin (begin_of a)) in
-    let put : List ℕ → Call = λ x. call.Put a.key a.content_type (length x) (d x) m in
-    began a c (begin_of a) done.reply
-    (λ x y. committed config d done.new k m a x (first_of (begin_of a) done.reply) y)
-    (λ x y. entry_of (put x) (done_by config done.new y (put x))) done.new k rest (λ x y. refl)
+-- behind the beginning of an upload that goes on stands a call
+puts : (d : List ℕ → List ℕ) (m : Moment) (q : Item) (stop : Option Stop) → goes_on q stop ≡ true → put_of d m q ≡ None → ⊥
+puts d m (refused w bare) stop g e = cc
+puts d m (whole a c) stop g e = cc
+puts d m (stopped a c w) stop g e = cc
+puts d m (cut a c) stop g e = cc
 
-on_part : (config : Config) (d : List ℕ → List ℕ) (s : State) (k : Contents) (m : Moment) (a : Head) (q : Item) (rest : List Entry) (method : Method)
-    → asks_nothing q ≡ false → goes_on q None ≡ false → Splits q (asked_for config d s k m a None method).entries rest
-on_part config d s k m a q rest methods.Get e g = one q _ rest e refl
-on_part config d s k m a q rest methods.Head e g = one q _ rest e refl
-on_part config d s k m a q rest methods.Delete e g = one q _ rest e refl
-on_part config d s k m a q rest methods.Put e g =
-    let done = done_by config s [] (call.Begin (begin_of a)) in
-    alone q (begin_of a) done.reply (λ x y. committed config d done.new k m a x (first_of (begin_of a) done.reply) y) done.new k rest e g
+no_second : (d : List ℕ → List ℕ) (m : Moment) (q : Item) (stop : Option Stop) (x y : Bool) → goes_on q stop ≡ y → (if x && y then put_of d m q else None) ≡ None → (x && y) ≡ false
+no_second d m q stop true true g e = absurd (puts d m q stop g e)
+no_second d m q stop false y g e = refl
+no_second d m q stop true false g e = refl
 
-pub splits : (config : Config) (d : List ℕ → List ℕ) (s : State) (k : Contents) (m : Moment) (rest : List Entry) (q : Item)
-    → Splits q (made_by config d s k m q).entries rest
-splits config d s k m rest (refused w bare) = none (refused w bare) rest refl
-splits config d s k m rest (whole a c) = on_whole config d s k m a c rest a.method
-splits config d s k m rest (stopped a c w) = on_part config d s k m a (stopped a c w) rest a.method refl refl
-splits config d s k m rest (cut a c) = on_part config d s k m a (cut a c) rest a.method refl refl
+second : (x : Bool) (put : Option Call) (c : Call) → (if x then put else None) ≡ Some c → x ≡ true
+second true put c e = refl
+second false put c e = cc
+
+-- where a call is left out, nothing stands behind
+pub splits : (setting : Setting) (m : Moment) (q : Item) (stop : Option Stop) (n : ℕ) (s : State) (es : List Entry) (new : State) (rest : List Entry)
+    → Makes setting m q stop [] n s es new → (setting.room ≤ n + length es → rest ≡ []) → (stop ≡ Some stops.NoMemory → rest ≡ []) → Splits q stop es rest
+splits setting m q stop n s [] new rest (inl e, x) full short = none q stop rest (silent m q e)
+splits setting m q stop n s [] new rest (inr (inl h), x) full short = at_end q stop rest (full (omega arith))
+splits setting m q stop n s [] new rest (inr (inr h), x) full short = at_end q stop rest (short h)
+splits setting m q stop n s (e ∷ []) new rest (mid, here, (inl x, y)) full short =
+    one q stop e rest (asks m q e.call here.asked) (no_second setting.digest m q stop (begins e) (goes_on q stop) refl x)
+splits setting m q stop n s (e ∷ []) new rest (mid, here, (inr (inl h), y)) full short =
+    alone q stop e rest _ (asks m q e.call here.asked) refl (full (omega arith))
+splits setting m q stop n s (e ∷ []) new rest (mid, here, (inr (inr h), y)) full short =
+    alone q stop e rest _ (asks m q e.call here.asked) refl (short h)
+splits setting m q stop n s (e ∷ f ∷ []) new rest (mid, here, (next, there, last)) full short =
+    two q stop e f rest (asks m q e.call here.asked) (second (begins e && goes_on q stop) (put_of setting.digest m q) f.call there.asked)
+splits setting m q stop n s (e ∷ f ∷ g ∷ es) new rest (mid, here, (next, there, (third, extra, last))) full short =
+    let none : next_call setting.digest m q stop (e ∷ f ∷ []) ≡ Some g.call = extra.asked in
+    cc

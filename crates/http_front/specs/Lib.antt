@@ -4,8 +4,13 @@ pub mod Responses
 pub mod Entries
 pub mod Answers
 pub mod Said
-pub mod Output
 pub mod Served
+pub mod Calls
+pub mod Turns
+pub mod Sound
+pub mod Output
+pub mod TurnLaws
+pub mod TurnRows
 pub mod Rows
 pub mod Buffers
 pub mod Skips

@@ -6,9 +6,15 @@
 //!
 //! - `response_of` gives the answer to a request by its own entries;
 //! - `said` joins the answers to a list of requests, by the entries that they made, up to the first that ends the session;
+//! - a *turn* is a request with its entries and its stop: `AreTurns` says which turns a session has, by the calls that its requests
+//!   make, and `turns_said` what is said in them;
 //! - `output_of` makes the entries too: it runs the one-thread repository over the requests.
 //!
-//! [`output_is_said`] is the law between the last two. [`run_session`] reads requests from a source and hands them to what
+//! The laws: the entries of turns are a history of the repository ([`turns_are_legal`]), and `said` of all of them is what is said
+//! in the turns, one after another ([`turns_are_said`]). Turns in which nothing failed are those of the one-thread repository
+//! ([`sound_turns_are_output`]), and what that makes are turns ([`output_is_turns`]).
+//!
+//! [`run_session`] reads requests from a source and hands them to what
 //! answers them ([`Replies`]): first the head, and where its content is wanted, be it none, then the content, by its framing.
 //! Its contract says of each end ([`End`]) what was read and what was written (`EndsAs`, specs/Sessions.antt), however the
 //! bytes come: the requests that were read have been answered, in their order, and nothing else was written.
@@ -31,7 +37,10 @@ mod stop;
 pub use begun::Begun;
 pub use end::End;
 pub use fed::Fed;
-pub use laws::{output_is_said, rows_hold};
+pub use laws::{
+    one_outcome, output_is_turns, rows_hold, sound_turns_are_output, turn_rows_hold,
+    turns_are_legal, turns_are_said, turns_go_on,
+};
 pub use replies::{Replies, Unsaid};
 pub use session::run_session;
 pub use stop::Stop;
