@@ -4,7 +4,7 @@ use Rattle.std.specs.declared.option.Option.{Option}
 use Rattle.std.specs.Io.KnownBytes.{Consumes, Appends, IsAtEnd}
 use Rattle.nx_io.specs.Causes.{Rose}
 use Rattle.http_front.specs.Buffers.{input_limit}
-use Rattle.http_front.specs.Chains.{Chain}
+use Rattle.http_front.specs.Chains.{Answering, Chain}
 use Rattle.http_requests.specs.Requests.{Item, AreRequests}
 use Rattle.http_heads.specs.declared.head.Head.{Head}
 use Rattle.http_heads.specs.Cut.{drop_blank}
@@ -19,7 +19,7 @@ use Rattle.http_front.specs.declared.replies.Unsaid.TheVariants as unsaid
 
 -- All that was read, which is no more than the limit, holds the requests, inside of which it ends or not. They were answered, and the
 -- answers were written. A source that doesn't tell has read some list of bytes.
-pub record HasSaid {A : Type 0} (Answers : A → A → Item → List ℕ → Type 0) (x y : A) (left left' taken taken' : Option (List ℕ)) (inside : Bool) : Type 0 where
+pub record HasSaid {A : Type 0} (Answers : Answering A) (x y : A) (left left' taken taken' : Option (List ℕ)) (inside : Bool) : Type 0 where
   pub read : List ℕ
   pub requests : List Item
   pub written : List ℕ
@@ -30,7 +30,7 @@ pub record HasSaid {A : Type 0} (Answers : A → A → Item → List ℕ → Typ
   pub wrote : Appends taken taken' written
 
 -- As many bytes as a session reads at most hold the requests, which were answered, and the answers were written. There are more.
-pub record HasSaidFirst {A : Type 0} (Answers : A → A → Item → List ℕ → Type 0) (x y : A) (left left' taken taken' : Option (List ℕ)) : Type 0 where
+pub record HasSaidFirst {A : Type 0} (Answers : Answering A) (x y : A) (left left' taken taken' : Option (List ℕ)) : Type 0 where
   pub read : List ℕ
   pub over : List ℕ
   pub requests : List Item
@@ -44,7 +44,7 @@ pub record HasSaidFirst {A : Type 0} (Answers : A → A → Item → List ℕ �
   pub wrote : Appends taken taken' written
 
 -- The first bytes that were read hold the requests, which were answered, and the answers were written.
-pub record HasSaidOf {A : Type 0} (Answers : A → A → Item → List ℕ → Type 0) (x y : A) (left left' taken taken' : Option (List ℕ)) : Type 0 where
+pub record HasSaidOf {A : Type 0} (Answers : Answering A) (x y : A) (left left' taken taken' : Option (List ℕ)) : Type 0 where
   pub read : List ℕ
   pub rest : List ℕ
   pub requests : List Item
@@ -57,7 +57,7 @@ pub record HasSaidOf {A : Type 0} (Answers : A → A → Item → List ℕ → T
   pub wrote : Appends taken taken' written
 
 -- The first bytes that were read hold the requests, which were answered. A front of the answers was written.
-pub record HasSaidPart {A : Type 0} (Answers : A → A → Item → List ℕ → Type 0) (x y : A) (left left' taken taken' : Option (List ℕ)) : Type 0 where
+pub record HasSaidPart {A : Type 0} (Answers : Answering A) (x y : A) (left left' taken taken' : Option (List ℕ)) : Type 0 where
   pub read : List ℕ
   pub rest : List ℕ
   pub requests : List Item
@@ -72,7 +72,7 @@ pub record HasSaidPart {A : Type 0} (Answers : A → A → Item → List ℕ →
 
 -- The first bytes that were read hold the requests, and behind them stands an accepted head. The answer to it was written before its
 -- content was looked at, or before all of that came, and ended the session: whatever the content is and whatever follows that, this is an answer.
-pub record HasDenied {A : Type 0} (Answers : A → A → Item → List ℕ → Type 0) (x y : A) (left left' taken taken' : Option (List ℕ)) : Type 0 where
+pub record HasDenied {A : Type 0} (Answers : Answering A) (x y : A) (left left' taken taken' : Option (List ℕ)) : Type 0 where
   pub first : List ℕ
   pub text : List ℕ
   pub rest : List ℕ
@@ -93,12 +93,12 @@ ends_session (item ∷ []) = is_last item
 ends_session (item ∷ next ∷ items) = ends_session (next ∷ items)
 
 -- the last answer closed the session: that to the last request, or one that came before a content was read
-abbrev pub HasClosed : {A : Type 0} → (A → A → Item → List ℕ → Type 0) → A → A → Option (List ℕ) → Option (List ℕ) → Option (List ℕ) → Option (List ℕ) → Type 0
+abbrev pub HasClosed : {A : Type 0} → Answering A → A → A → Option (List ℕ) → Option (List ℕ) → Option (List ℕ) → Option (List ℕ) → Type 0
 HasClosed Answers x y left left' taken taken' =
     ((s : HasSaid Answers x y left left' taken taken' false) × (ends_session s.requests ≡ true)) ⊎ HasDenied Answers x y left left' taken taken'
 
 -- what each end says, where the replies went from the one value to the other
-abbrev pub EndsAs : {A : Type 0} → (A → A → Item → List ℕ → Type 0) → (A → A → Type 0) → End → A → A → Option (List ℕ) → Option (List ℕ) → Bool → Option (List ℕ) → Option (List ℕ) → Type 0
+abbrev pub EndsAs : {A : Type 0} → Answering A → (A → A → Type 0) → End → A → A → Option (List ℕ) → Option (List ℕ) → Bool → Option (List ℕ) → Option (List ℕ) → Type 0
 EndsAs Answers Fails ends.Clean x y left left' ended taken taken' = HasSaid Answers x y left left' taken taken' false × IsAtEnd left' × (ended ≡ true)
 EndsAs Answers Fails ends.Closed x y left left' ended taken taken' = HasClosed Answers x y left left' taken taken'
 EndsAs Answers Fails ends.Cut x y left left' ended taken taken' = HasSaid Answers x y left left' taken taken' true × IsAtEnd left' × (ended ≡ true)

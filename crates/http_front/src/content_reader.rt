@@ -82,7 +82,7 @@ fn read_sized<R: Replies, S: Source, K: Sink>(
     'pieces: while left > 0 {
         if !buffer.has_waiting() {
             match buffer.fill(input) {
-                Fill::Bytes => {}
+                Fill::Bytes => continue 'pieces,
                 Fill::End => return Content::Cut,
                 Fill::Halt(halt) => return Content::Halt(halt),
             }
