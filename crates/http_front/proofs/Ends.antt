@@ -106,6 +106,18 @@ part_said Answers x y z a b c t u v old came more rest item inside r m e h (answ
   holds = r.holds more (item ∷ []) inside h;
   made = Chain-append Answers x y z r.front (item ∷ []) r.written answer r.made (Chain-one Answers y z item answer is);
   some = omega (arith, length-append r.written answer, le);
+  last = record {
+    front = r.front;
+    last = item;
+    before = r.written;
+    answer = answer;
+    mid = y;
+    requests = refl;
+    parts = refl;
+    made = r.made;
+    is = is;
+    past = omega arith;
+  };
   wrote = subst (Appends t v) (sym (front_of r.written answer count)) (Appends-trans t u v r.written (take count answer) r.wrote w);
 }
 

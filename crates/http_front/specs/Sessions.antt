@@ -4,7 +4,7 @@ use Rattle.std.specs.declared.option.Option.{Option}
 use Rattle.std.specs.Io.KnownBytes.{Consumes, Appends, IsAtEnd}
 use Rattle.nx_io.specs.Causes.{Rose}
 use Rattle.http_front.specs.Buffers.{input_limit}
-use Rattle.http_front.specs.Chains.{Answering, Chain}
+use Rattle.http_front.specs.Chains.{Answering, Chain, ChainsPast}
 use Rattle.http_requests.specs.Requests.{Item, AreRequests}
 use Rattle.http_heads.specs.declared.head.Head.{Head}
 use Rattle.http_heads.specs.Cut.{drop_blank}
@@ -56,7 +56,7 @@ pub record HasSaidOf {A : Type 0} (Answers : Answering A) (x y : A) (left left' 
   pub made : Chain Answers x requests written y
   pub wrote : Appends taken taken' written
 
--- The first bytes that were read hold the requests, which were answered. A front of the answers was written.
+-- The first bytes that were read hold the requests, which were answered. The answers were written, of the last a front.
 pub record HasSaidPart {A : Type 0} (Answers : Answering A) (x y : A) (left left' taken taken' : Option (List ℕ)) : Type 0 where
   pub read : List ℕ
   pub rest : List ℕ
@@ -68,6 +68,7 @@ pub record HasSaidPart {A : Type 0} (Answers : Answering A) (x y : A) (left left
   pub holds : AreRequests read requests inside
   pub made : Chain Answers x requests written y
   pub some : count ≤ length written
+  pub last : ChainsPast Answers x requests written y count
   pub wrote : Appends taken taken' (take count written)
 
 -- The first bytes that were read hold the requests, and behind them stands an accepted head. The answer to it was written before its
