@@ -1,5 +1,5 @@
 -- Requests that were answered one after another, and more behind them.
-use Rattle.std.proofs.Common.{◌≡◌, ℕ, ◌+◌, ◌≤◌, suc, List, [], ◌∷◌, ◌++◌, length, take, Result, Ok, Err, refl, sym, ap, ◌∙◌, subst, arith, append_assoc, append-nil, length-append}
+use Rattle.std.proofs.Common.{◌≡◌, ℕ, ◌+◌, suc, List, [], ◌∷◌, ◌++◌, length, take, Result, Ok, Err, refl, sym, ap, ◌∙◌, subst, arith, append_assoc, append-nil, length-append}
 use Rattle.std.specs.declared.option.Option.{Option}
 use Rattle.std.specs.Io.KnownBytes.{Appends}
 use Rattle.std.proofs.KnownBytes.{Appends-trans}
@@ -26,9 +26,13 @@ front_of [] y k = ap (λ (n : ℕ). take n y) (omega arith)
 front_of (b ∷ x) y k = let e : length (b ∷ x) + k ≡ suc (length x + k) = omega arith in ap (λ (n : ℕ). take n (b ∷ x ++ y)) e ∙ ap (λ (l : List ℕ). b ∷ l) (front_of x y k)
 
 part_joined : (Is : List ℕ → Type 0) (said : List ℕ) (u v w : Option (List ℕ)) → Appends u v said → IsPart Is said v w → IsPart Is [] u w
-part_joined Is said u v w x (answer, count, is, le, wrote) =
-    (said ++ answer, length said + count, is, omega (arith, le, length-append said answer),
-    subst (Appends u w) (sym (front_of said answer count)) (Appends-trans u v w said (take count answer) x wrote))
+part_joined Is said u v w x (answer, count, is, le, wrote) = (
+  said ++ answer,
+  length said + count,
+  is,
+  omega (arith, le, length-append said answer),
+  subst (Appends u w) (sym (front_of said answer count)) (Appends-trans u v w said (take count answer) x wrote),
+)
 
 -- the answer with what was said before
 pub joined : (Is : List ℕ → Type 0) (F G : Type 0) (said : List ℕ) (u v w : Option (List ℕ)) (result : Result (Unit {0}) Unsaid) → (F → G) → Appends u v said → IsAnswered Is F said v w result → IsAnswered Is G [] u w result

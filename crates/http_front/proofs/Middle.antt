@@ -24,7 +24,6 @@ use Rattle.http_front.specs.declared.end.End.TheVariants as ends
 use Rattle.http_front.specs.declared.halt.Halt.{Halt}
 use Rattle.http_front.specs.declared.halt.Halt.TheVariants as halts
 use Rattle.http_front.specs.declared.replies.Unsaid.{Unsaid}
-use Rattle.http_front.specs.declared.replies.Unsaid.TheVariants as unsaid
 use Rattle.http_front.proofs.Chained.{Chain-one, Chain-append, joined, answered_as}
 use Rattle.http_front.proofs.Runs.{Runs, Took, took_both, all_read, stands_last, stands_alone, answered}
 use Rattle.http_front.proofs.Comes.{unmoved}

@@ -1,5 +1,5 @@
 -- A content that is handed over part by part.
-use Rattle.std.specs.Prelude.{ℕ, List, [], Result, Err}
+use Rattle.std.specs.Prelude.{ℕ, List, [], Result}
 use Rattle.std.specs.declared.option.Option.{Option}
 use Rattle.std.specs.Io.KnownBytes.{Appends}
 use Rattle.http_heads.specs.declared.head.Head.{Head}

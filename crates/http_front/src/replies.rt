@@ -30,12 +30,7 @@ pub trait Replies {
     ghost Fails: { Self → Self → Type 0 };
 
     /// Answers a head that is refused, which ends the session.
-    fn refused<K: Sink>(
-        &mut self,
-        why: HeadErr,
-        bare: bool,
-        output: &mut K,
-    ) -> Result<(), Unsaid>
+    fn refused<K: Sink>(&mut self, why: HeadErr, bare: bool, output: &mut K) -> Result<(), Unsaid>
         ensures said { IsAnswered (Answers self.old self.new (stream.refused why bare)) (Fails self.old self.new) [] (K.taken output.old) (K.taken output.new) result }
         ensures cause { HasSinkCause (K.faults output.old) (K.faults output.new) result };
 
