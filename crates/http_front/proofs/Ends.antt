@@ -1,5 +1,5 @@
 -- The ends of a session.
-use Rattle.std.proofs.Common.{◌≡◌, ℕ, ◌+◌, ◌<◌, ◌≤◌, Bool, true, false, List, [], ◌∷◌, ◌++◌, length, take, Result, Ok, Err, refl, sym, ap, ◌∙◌, subst, arith, inl, append_assoc, append-nil, length-append}
+use Rattle.std.proofs.Common.{◌≡◌, ℕ, ◌+◌, ◌<◌, ◌≤◌, Bool, true, false, List, [], ◌∷◌, ◌++◌, length, take, Result, Ok, Err, OnOk, refl, sym, ap, ◌∙◌, subst, arith, inl, inr, append_assoc, append-nil, length-append}
 use Rattle.std.specs.declared.option.Option.{Option}
 use Rattle.std.specs.Io.KnownBytes.{Consumes, Appends, IsAtEnd}
 use Rattle.std.proofs.KnownBytes.{Consumes-trans, Appends-nil, Appends-trans}
@@ -122,21 +122,21 @@ part_said Answers x y z a b c t u v old came more rest item inside r m e h (answ
 }
 
 -- the request was answered in part alone
-pub unsaid_ends : {A : Type 0} (Answers : Answering A) (Fails : A → A → Type 0) (x y z : A) (a b c t u v : Option (List ℕ)) (e : Bool) (old : Pending) (came more rest : List ℕ) (item : Item) (inside : Bool) (why : Unsaid)
+pub unsaid_ends : {A : Type 0} (Answers : Answering A) (Fails : A → A → Type 0) (IsOver : A → Type 0) (x y z : A) (a b c t u v : Option (List ℕ)) (e : Bool) (old : Pending) (came more rest : List ℕ) (item : Item) (inside : Bool) (why : Unsaid)
     → (r : Runs Answers x y a b t u old) → Consumes b c came → old.waiting ++ came ≡ more ++ rest → AreRequests more (item ∷ []) inside → IsAnswered (Answers y z item) ((mid : A) × Fails mid z) [] u v (Err why)
-    → EndsAs Answers Fails (unsaid_end why) x z a c e t v
-unsaid_ends Answers Fails x y z a b c t u v e old came more rest item inside unsaid.WriteFault r m parts h p = part_said Answers x y z a b c t u v old came more rest item inside r m parts h p
-unsaid_ends Answers Fails x y z a b c t u v e old came more rest item inside unsaid.DownloadFault r m parts h (p, fails) =
+    → EndsAs Answers Fails IsOver (unsaid_end why) x z a c e t v
+unsaid_ends Answers Fails IsOver x y z a b c t u v e old came more rest item inside unsaid.WriteFault r m parts h p = part_said Answers x y z a b c t u v old came more rest item inside r m parts h p
+unsaid_ends Answers Fails IsOver x y z a b c t u v e old came more rest item inside unsaid.DownloadFault r m parts h (p, fails) =
     (part_said Answers x y z a b c t u v old came more rest item inside r m parts h p, fails)
 
 -- a halt where no request stands in the bytes
-pub halt_said : {A : Type 0} (Answers : Answering A) (Fails : A → A → Type 0) (x y : A) (a b c t u : Option (List ℕ)) (e : Bool) (old : Pending) (m n : ℕ) (h : Halt)
-    → Runs Answers x y a b t u old → Halts (HasNoRequest old) b c old.total m n h → EndsAs Answers Fails (halt_end h) x y a c e t u
-halt_said Answers Fails x y a b c t u e old m n halts.ReadFault r (came, k, (inside, s), i, rose) =
+pub halt_said : {A : Type 0} (Answers : Answering A) (Fails : A → A → Type 0) (IsOver : A → Type 0) (x y : A) (a b c t u : Option (List ℕ)) (e : Bool) (old : Pending) (m n : ℕ) (h : Halt)
+    → Runs Answers x y a b t u old → Halts (HasNoRequest old) b c old.total m n h → EndsAs Answers Fails IsOver (halt_end h) x y a c e t u
+halt_said Answers Fails IsOver x y a b c t u e old m n halts.ReadFault r (came, k, (inside, s), i, rose) =
     (inside, all_said Answers x y y a b c t u u old came [] [] inside r k i s (refl, refl) (Appends-nil u))
-halt_said Answers Fails x y a b c t u e old m n halts.InputTooLong r (came, over, some, k, full, (inside, s)) =
+halt_said Answers Fails IsOver x y a b c t u e old m n halts.InputTooLong r (came, over, some, k, full, (inside, s)) =
     first_said Answers x y y a b c t u u old came over [] [] inside r k some full s (refl, refl) (Appends-nil u)
-halt_said Answers Fails x y a b c t u e old m n halts.NoMemory r (came, k) = taken_said Answers x y a b c t u old came r k
+halt_said Answers Fails IsOver x y a b c t u e old m n halts.NoMemory r (came, k) = taken_said Answers x y a b c t u old came r k
 
 -- the input ended between requests, or inside a head
 ended : {A : Type 0} (Answers : Answering A) (x y : A) (a b c t u : Option (List ℕ)) (e : Bool) (old : Pending) (inside : Bool)
@@ -144,10 +144,10 @@ ended : {A : Type 0} (Answers : Answering A) (x y : A) (a b c t u : Option (List
 ended Answers x y a b c t u e old inside r m =
     (all_said Answers x y y a b c t u u old m.came [] [] inside r m.consumed m.within m.stands (refl, refl) (Appends-nil u), m.at_end, m.told)
 
-pub input_ended : {A : Type 0} (Answers : Answering A) (Fails : A → A → Type 0) (x y : A) (a b c t u : Option (List ℕ)) (e : Bool) (old : Pending) (inside : Bool)
-    → Runs Answers x y a b t u old → MetEnd b c e old.total (λ came. AreRequests (old.waiting ++ came) [] inside) → EndsAs Answers Fails (input_end inside) x y a c e t u
-input_ended Answers Fails x y a b c t u e old true r m = ended Answers x y a b c t u e old true r m
-input_ended Answers Fails x y a b c t u e old false r m = ended Answers x y a b c t u e old false r m
+pub input_ended : {A : Type 0} (Answers : Answering A) (Fails : A → A → Type 0) (IsOver : A → Type 0) (x y : A) (a b c t u : Option (List ℕ)) (e : Bool) (old : Pending) (inside : Bool)
+    → Runs Answers x y a b t u old → MetEnd b c e old.total (λ came. AreRequests (old.waiting ++ came) [] inside) → EndsAs Answers Fails IsOver (input_end inside) x y a c e t u
+input_ended Answers Fails IsOver x y a b c t u e old true r m = ended Answers x y a b c t u e old true r m
+input_ended Answers Fails IsOver x y a b c t u e old false r m = ended Answers x y a b c t u e old false r m
 
 -- the last of the requests
 last_of : (front : List Item) (item : Item) → ends_session (front ++ item ∷ []) ≡ is_last item
@@ -156,25 +156,42 @@ last_of (x ∷ []) item = refl
 last_of (x ∷ y ∷ front) item = last_of (y ∷ front) item
 
 -- the last request was answered, which ends the session
-pub all_closed : {A : Type 0} (Answers : Answering A) (x y z : A) (a b c t u v : Option (List ℕ)) (old : Pending) (came answer : List ℕ) (item : Item)
+pub all_closed : {A : Type 0} (Answers : Answering A) (IsOver : A → Type 0) (x y z : A) (a b c t u v : Option (List ℕ)) (old : Pending) (came answer : List ℕ) (item : Item)
     → (r : Runs Answers x y a b t u old) → Consumes b c came → IsWithin old.total came → AreRequests (old.waiting ++ came) (item ∷ []) false → Answers y z item answer → Appends u v answer → is_last item ≡ true
-    → HasClosed Answers x z a c t v
+    → IsOver z → HasClosed Answers IsOver x z a c t v
 unfolding all_said
-all_closed Answers x y z a b c t u v old came answer item r m i h is w l =
-    inl (all_said Answers x y z a b c t u v old came answer (item ∷ []) false r m i h (Chain-one Answers y z item answer is) w, last_of r.front item ∙ l)
+all_closed Answers IsOver x y z a b c t u v old came answer item r m i h is w l over =
+    (inl (all_said Answers x y z a b c t u v old came answer (item ∷ []) false r m i h (Chain-one Answers y z item answer is) w, last_of r.front item ∙ l), over)
+
+-- the last request was answered, which ends the session though it doesn't close
+pub all_stopped : {A : Type 0} (Answers : Answering A) (IsOver : A → Type 0) (x z : A) (a c t v : Option (List ℕ)) (now : Pending) → Runs Answers x z a c t v now → IsOver z → HasClosed Answers IsOver x z a c t v
+all_stopped Answers IsOver x z a c t v now r over = (
+  inr (inr (record {
+    first = r.done;
+    rest = now.waiting;
+    requests = r.front;
+    written = r.written;
+    consumed = subst (Consumes a c) r.parts r.consumed;
+    few = subst (λ (l : List ℕ). length l ≤ input_limit) r.parts (omega (arith, r.count, r.few));
+    holds = r.holds;
+    made = r.made;
+    wrote = r.wrote;
+  })),
+  over,
+)
 
 -- it was answered, or in part
-pub result_ends : {A : Type 0} (Answers : Answering A) (Fails : A → A → Type 0) (x y z : A) (a b c t u v : Option (List ℕ)) (e : Bool) (old : Pending) (came : List ℕ) (item : Item) (result : Result (Unit {0}) Unsaid)
+pub result_ends : {A : Type 0} (Answers : Answering A) (Fails : A → A → Type 0) (IsOver : A → Type 0) (x y z : A) (a b c t u v : Option (List ℕ)) (e : Bool) (old : Pending) (came : List ℕ) (item : Item) (result : Result (Unit {0}) Unsaid)
     → Runs Answers x y a b t u old → Consumes b c came → IsWithin old.total came → AreRequests (old.waiting ++ came) (item ∷ []) false → is_last item ≡ true
-    → IsAnswered (Answers y z item) ((mid : A) × Fails mid z) [] u v result → EndsAs Answers Fails (result_end result) x z a c e t v
-result_ends Answers Fails x y z a b c t u v e old came item (Ok k) r m i h l (answer, is, w) = all_closed Answers x y z a b c t u v old came answer item r m i h is w l
-result_ends Answers Fails x y z a b c t u v e old came item (Err why) r m i h l p =
-    unsaid_ends Answers Fails x y z a b c t u v e old came (old.waiting ++ came) [] item false why r m (sym (append-nil (old.waiting ++ came))) h p
+    → IsAnswered (Answers y z item) ((mid : A) × Fails mid z) [] u v result → OnOk result (IsOver z) → EndsAs Answers Fails IsOver (result_end result) x z a c e t v
+result_ends Answers Fails IsOver x y z a b c t u v e old came item (Ok k) r m i h l (answer, is, w) over = all_closed Answers IsOver x y z a b c t u v old came answer item r m i h is w l over
+result_ends Answers Fails IsOver x y z a b c t u v e old came item (Err why) r m i h l p over =
+    unsaid_ends Answers Fails IsOver x y z a b c t u v e old came (old.waiting ++ came) [] item false why r m (sym (append-nil (old.waiting ++ came))) h p
 
 -- a refused head ends the session
-pub refused : {A : Type 0} (Answers : Answering A) (Fails : A → A → Type 0) (x y z : A) (a b c t u v : Option (List ℕ)) (e : Bool) (old : Pending) (why : HeadErr) (bare : Bool) (result : Result (Unit {0}) Unsaid)
+pub refused : {A : Type 0} (Answers : Answering A) (Fails : A → A → Type 0) (IsOver : A → Type 0) (x y z : A) (a b c t u v : Option (List ℕ)) (e : Bool) (old : Pending) (why : HeadErr) (bare : Bool) (result : Result (Unit {0}) Unsaid)
     → Runs Answers x y a b t u old → MetRefusal b c old why bare → IsAnswered (Answers y z (stream.refused why bare)) ((mid : A) × Fails mid z) [] u v result
-    → EndsAs Answers Fails (result_end result) x z a c e t v
-refused Answers Fails x y z a b c t u v e old why bare result r (came, m, i, f) p =
+    → OnOk result (IsOver z) → EndsAs Answers Fails IsOver (result_end result) x z a c e t v
+refused Answers Fails IsOver x y z a b c t u v e old why bare result r (came, m, i, f) p over =
     let here : IsRefused (drop_blank (old.waiting ++ came)) why bare = subst (λ (l : List ℕ). IsRefused (drop_blank l) why bare) (append-nil (old.waiting ++ came)) (f []) in
-    result_ends Answers Fails x y z a b c t u v e old came (stream.refused why bare) result r m i (here, refl, refl) refl p
+    result_ends Answers Fails IsOver x y z a b c t u v e old came (stream.refused why bare) result r m i (here, refl, refl) refl p over

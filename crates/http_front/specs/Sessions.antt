@@ -87,28 +87,45 @@ pub record HasDenied {A : Type 0} (Answers : Answering A) (x y : A) (left left' 
   pub made : (item : Item) → IsOf head item → Chain Answers x (requests ++ item ∷ []) written y
   pub wrote : Appends taken taken' written
 
+-- The first bytes that were read hold the requests, whatever follows. They were answered, and the answers were written. So it is where the
+-- last answer ends the session though its request doesn't close, as that to an upload that failed when it was whole.
+pub record HasStopped {A : Type 0} (Answers : Answering A) (x y : A) (left left' taken taken' : Option (List ℕ)) : Type 0 where
+  pub first : List ℕ
+  pub rest : List ℕ
+  pub requests : List Item
+  pub written : List ℕ
+  pub consumed : Consumes left left' (first ++ rest)
+  pub few : length (first ++ rest) ≤ input_limit
+  pub holds : (more : List ℕ) (items : List Item) (inside : Bool) → AreRequests more items inside → AreRequests (first ++ more) (requests ++ items) inside
+  pub made : Chain Answers x requests written y
+  pub wrote : Appends taken taken' written
+
 -- the session ends after the last of the requests
 abbrev pub ends_session : List Item → Bool
 ends_session [] = false
 ends_session (item ∷ []) = is_last item
 ends_session (item ∷ next ∷ items) = ends_session (next ∷ items)
 
--- the last answer closed the session: that to the last request, or one that came before a content was read
-abbrev pub HasClosed : {A : Type 0} → Answering A → A → A → Option (List ℕ) → Option (List ℕ) → Option (List ℕ) → Option (List ℕ) → Type 0
-HasClosed Answers x y left left' taken taken' =
-    ((s : HasSaid Answers x y left left' taken taken' false) × (ends_session s.requests ≡ true)) ⊎ HasDenied Answers x y left left' taken taken'
+-- all that was read holds the requests, and the last of them ends the session
+abbrev pub HasEnded : {A : Type 0} → Answering A → A → A → Option (List ℕ) → Option (List ℕ) → Option (List ℕ) → Option (List ℕ) → Type 0
+HasEnded Answers x y left left' taken taken' = (s : HasSaid Answers x y left left' taken taken' false) × (ends_session s.requests ≡ true)
+
+-- the last answer ended the session: that to a request that ends it, one that came before all of the content did, or one to a request that doesn't close
+abbrev pub HasClosed : {A : Type 0} → Answering A → (A → Type 0) → A → A → Option (List ℕ) → Option (List ℕ) → Option (List ℕ) → Option (List ℕ) → Type 0
+HasClosed Answers IsOver x y left left' taken taken' =
+    (HasEnded Answers x y left left' taken taken' ⊎ (HasDenied Answers x y left left' taken taken' ⊎ HasStopped Answers x y left left' taken taken')) × IsOver y
 
 -- what each end says, where the replies went from the one value to the other
-abbrev pub EndsAs : {A : Type 0} → Answering A → (A → A → Type 0) → End → A → A → Option (List ℕ) → Option (List ℕ) → Bool → Option (List ℕ) → Option (List ℕ) → Type 0
-EndsAs Answers Fails ends.Clean x y left left' ended taken taken' = HasSaid Answers x y left left' taken taken' false × IsAtEnd left' × (ended ≡ true)
-EndsAs Answers Fails ends.Closed x y left left' ended taken taken' = HasClosed Answers x y left left' taken taken'
-EndsAs Answers Fails ends.Cut x y left left' ended taken taken' = HasSaid Answers x y left left' taken taken' true × IsAtEnd left' × (ended ≡ true)
-EndsAs Answers Fails ends.ReadFault x y left left' ended taken taken' = (inside : Bool) × HasSaid Answers x y left left' taken taken' inside
-EndsAs Answers Fails ends.WriteFault x y left left' ended taken taken' = HasSaidPart Answers x y left left' taken taken'
-EndsAs {A} Answers Fails ends.DownloadFault x y left left' ended taken taken' =
+abbrev pub EndsAs : {A : Type 0} → Answering A → (A → A → Type 0) → (A → Type 0) → End → A → A → Option (List ℕ) → Option (List ℕ) → Bool → Option (List ℕ) → Option (List ℕ) → Type 0
+EndsAs Answers Fails IsOver ends.Clean x y left left' ended taken taken' = HasSaid Answers x y left left' taken taken' false × IsAtEnd left' × (ended ≡ true)
+EndsAs Answers Fails IsOver ends.Closed x y left left' ended taken taken' = HasClosed Answers IsOver x y left left' taken taken'
+EndsAs Answers Fails IsOver ends.Cut x y left left' ended taken taken' = HasSaid Answers x y left left' taken taken' true × IsAtEnd left' × (ended ≡ true)
+EndsAs Answers Fails IsOver ends.ReadFault x y left left' ended taken taken' = (inside : Bool) × HasSaid Answers x y left left' taken taken' inside
+EndsAs Answers Fails IsOver ends.WriteFault x y left left' ended taken taken' = HasSaidPart Answers x y left left' taken taken'
+EndsAs {A} Answers Fails IsOver ends.DownloadFault x y left left' ended taken taken' =
     HasSaidPart Answers x y left left' taken taken' × ((mid : A) × Fails mid y)
-EndsAs Answers Fails ends.InputTooLong x y left left' ended taken taken' = HasSaidFirst Answers x y left left' taken taken'
-EndsAs Answers Fails ends.NoMemory x y left left' ended taken taken' = HasSaidOf Answers x y left left' taken taken'
+EndsAs Answers Fails IsOver ends.InputTooLong x y left left' ended taken taken' = HasSaidFirst Answers x y left left' taken taken'
+EndsAs Answers Fails IsOver ends.NoMemory x y left left' ended taken taken' = HasSaidOf Answers x y left left' taken taken'
 
 -- a fault only where the count of the source or of the sink rose
 abbrev pub HasEndCause : End → ℕ → ℕ → ℕ → ℕ → Type 0
