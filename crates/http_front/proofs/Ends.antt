@@ -164,13 +164,14 @@ all_closed Answers IsOver x y z a b c t u v old came answer item r m i h is w l 
     (inl (all_said Answers x y z a b c t u v old came answer (item ∷ []) false r m i h (Chain-one Answers y z item answer is) w, last_of r.front item ∙ l), over)
 
 -- the last request was answered, which ends the session though it doesn't close
-pub all_stopped : {A : Type 0} (Answers : Answering A) (IsOver : A → Type 0) (x z : A) (a c t v : Option (List ℕ)) (now : Pending) → Runs Answers x z a c t v now → IsOver z → HasClosed Answers IsOver x z a c t v
-all_stopped Answers IsOver x z a c t v now r over = (
+pub all_stopped : {A : Type 0} (Answers : Answering A) (IsOver : A → Type 0) (x z : A) (a c t v : Option (List ℕ)) (now : Pending) → (r : Runs Answers x z a c t v now) → 0 < length r.front → IsOver z → HasClosed Answers IsOver x z a c t v
+all_stopped Answers IsOver x z a c t v now r some over = (
   inr (inr (record {
     first = r.done;
     rest = now.waiting;
     requests = r.front;
     written = r.written;
+    some = some;
     consumed = subst (Consumes a c) r.parts r.consumed;
     few = subst (λ (l : List ℕ). length l ≤ input_limit) r.parts (omega (arith, r.count, r.few));
     holds = r.holds;

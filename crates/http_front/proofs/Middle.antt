@@ -25,7 +25,7 @@ use Rattle.http_front.specs.declared.halt.Halt.{Halt}
 use Rattle.http_front.specs.declared.halt.Halt.TheVariants as halts
 use Rattle.http_front.specs.declared.replies.Unsaid.{Unsaid}
 use Rattle.http_front.proofs.Chained.{Chain-one, Chain-append, joined, answered_as}
-use Rattle.http_front.proofs.Runs.{Runs, Took, took_both, all_read, stands_last, stands_alone, answered}
+use Rattle.http_front.proofs.Runs.{Runs, Took, took_both, all_read, stands_last, stands_alone, answered, answered_some}
 use Rattle.http_front.proofs.Comes.{unmoved}
 use Rattle.http_front.proofs.Ends.{within_all, all_said, first_said, of_said, unsaid_ends, all_closed, all_stopped, result_ends}
 use Rattle.http_front.proofs.Opened.{opened, empty_content, put_if_cut, IsOf-unread}
@@ -157,7 +157,10 @@ whole_last Answers Waits IsOver G x y p z a b c t u v w old new head content r k
   where
     by_close : (closes : Bool) → head.closes ≡ closes → HasClosed Answers IsOver x z a c t w
     by_close true e = whole_closed Answers Waits IsOver G x y p z a b c t u v w old new head content r k n e h over
-    by_close false e = all_stopped Answers IsOver x z a c t w new (whole_answered Answers Waits G x y p z a b c t u v w old new head content r k n e h) over
+    by_close false e =
+        let wrote : Appends u w (n.said ++ h.0) = Appends-trans u v w n.said h.0 n.wrote h.2 in
+        all_stopped Answers IsOver x z a c t w new (answered Answers x y z a b c t u w old new head content (n.said ++ h.0) r k e h.1 wrote)
+        (answered_some Answers x y z a b c t u w old new head content (n.said ++ h.0) r k e h.1 wrote) over
 
 -- it was answered in part
 pub whole_unsaid : {A : Type 0} (Answers : Answering A) (Waits : Waiting A) (Fails : A → A → Type 0) (IsOver : A → Type 0) (x y p z : A) (a b c t u v w : Option (List ℕ)) (e : Bool) (old new : Pending) (head : Head) (content : List ℕ) (why : Unsaid)

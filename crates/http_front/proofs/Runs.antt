@@ -121,3 +121,10 @@ answered Answers x y z a b c t u v old new asked content answer r k goes is wrot
   holds = taken_holds r.done k.text r.front (stream.whole asked content) r.holds (stands_first b c old new asked content k goes);
   made = Chain-append Answers x y z r.front (stream.whole asked content ∷ []) r.written answer r.made (Chain-one Answers y z (stream.whole asked content) answer is);
 }
+
+-- one request at least
+pub answered_some : {A : Type 0} (Answers : Answering A) (x y z : A) (a b c t u v : Option (List ℕ)) (old new : Pending) (asked : Head) (content answer : List ℕ)
+    → (r : Runs Answers x y a b t u old) → (k : Took b c old new asked content) → (goes : asked.closes ≡ false) → (is : Answers y z (stream.whole asked content) answer) → (wrote : Appends u v answer)
+    → 0 < length (answered Answers x y z a b c t u v old new asked content answer r k goes is wrote).front
+unfolding answered
+answered_some Answers x y z a b c t u v old new asked content answer r k goes is wrote = omega (arith, length-append r.front (stream.whole asked content ∷ []))

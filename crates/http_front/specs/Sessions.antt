@@ -94,6 +94,7 @@ pub record HasStopped {A : Type 0} (Answers : Answering A) (x y : A) (left left'
   pub rest : List ℕ
   pub requests : List Item
   pub written : List ℕ
+  pub some : 0 < length requests
   pub consumed : Consumes left left' (first ++ rest)
   pub few : length (first ++ rest) ≤ input_limit
   pub holds : (more : List ℕ) (items : List Item) (inside : Bool) → AreRequests more items inside → AreRequests (first ++ more) (requests ++ items) inside
