@@ -39,3 +39,6 @@ pub use laws::{output_is_said, rows_hold};
 pub use replies::{Replies, Unsaid};
 pub use session::run_session;
 pub use stop::Stop;
+
+#[cfg(test)]
+mod tests;
