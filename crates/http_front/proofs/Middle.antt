@@ -1,5 +1,5 @@
 -- A request between its head and its content.
-use Rattle.std.proofs.Common.{◌≡◌, ℕ, ◌+◌, ◌<◌, ◌≤◌, Bool, true, false, List, [], ◌∷◌, ◌++◌, length, Result, Ok, Err, OnOk, refl, sym, ap, ◌∙◌, subst, arith, append_assoc, append-nil, length-append}
+use Rattle.std.proofs.Common.{◌≡◌, inl, inr, ℕ, ◌+◌, ◌<◌, ◌≤◌, Bool, true, false, List, [], ◌∷◌, ◌++◌, length, Result, Ok, Err, OnOk, refl, sym, ap, ◌∙◌, subst, arith, append_assoc, append-nil, length-append}
 use Rattle.std.specs.declared.option.Option.{Option}
 use Rattle.std.specs.Io.KnownBytes.{Consumes, Appends}
 use Rattle.std.proofs.KnownBytes.{Consumes-trans, Appends-nil, Appends-trans}
@@ -25,7 +25,7 @@ use Rattle.http_front.specs.declared.halt.Halt.{Halt}
 use Rattle.http_front.specs.declared.halt.Halt.TheVariants as halts
 use Rattle.http_front.specs.declared.replies.Unsaid.{Unsaid}
 use Rattle.http_front.proofs.Chained.{Chain-one, Chain-append, joined, answered_as}
-use Rattle.http_front.proofs.Runs.{Runs, Took, took_both, all_read, stands_last, stands_alone, answered, answered_some}
+use Rattle.http_front.proofs.Runs.{Runs, Took, took_both, all_read, stands_last, stands_alone, answered}
 use Rattle.http_front.proofs.Comes.{unmoved}
 use Rattle.http_front.proofs.Ends.{within_all, all_said, first_said, of_said, unsaid_ends, all_closed, all_stopped, result_ends}
 use Rattle.http_front.proofs.Opened.{opened, empty_content, put_if_cut, IsOf-unread}
@@ -70,23 +70,23 @@ asks b c old mid head came reading k h = record {
 -- ---- the head was answered
 
 -- in part
-pub begin_unsaid : {A : Type 0} (Answers : Answering A) (Waits : Waiting A) (Fails : A → A → Type 0) (IsOver : A → Type 0) (x y z : A) (a b c t u v : Option (List ℕ)) (e : Bool) (old mid : Pending) (head : Head) (why : Unsaid)
-    → Runs Answers x y a b t u old → TookHead b c old mid head → Begins (Answers y z) (Waits y z head []) (Fails y z) head u v (Err why) → EndsAs Answers Fails IsOver (unsaid_end why) x z a c e t v
-begin_unsaid {A} Answers Waits Fails IsOver x y z a b c t u v e old mid head why r k p =
+pub begin_unsaid : {A : Type 0} (Answers : Answering A) (Waits : Waiting A) (Fails : A → A → Type 0) (is_over : A → Bool) (x y z : A) (a b c t u v : Option (List ℕ)) (e : Bool) (old mid : Pending) (head : Head) (why : Unsaid)
+    → Runs Answers is_over x y a b t u old → TookHead b c old mid head → Begins (Answers y z) (Waits y z head []) (Fails y z) head u v (Err why) → EndsAs Answers Fails is_over (unsaid_end why) x z a c e t v
+begin_unsaid {A} Answers Waits Fails is_over x y z a b c t u v e old mid head why r k p =
     let o = opened b c old mid head k in
-    unsaid_ends Answers Fails IsOver x y z a b c t u v e old k.moves.came k.taken mid.waiting (unread head) o.0 why r k.moves.consumed k.moves.parts o.1
+    unsaid_ends Answers Fails is_over x y z a b c t u v e old k.moves.came k.taken mid.waiting (unread head) o.0 why r k.moves.consumed k.moves.parts o.1
     (joined (Answers y z (unread head)) (Fails y z) ((q : A) × Fails q z) [] u u v (Err why) (λ f. (y, f)) (Appends-nil u) p)
 
 -- whole, and the session goes on
-pub begin_answered : {A : Type 0} (Answers : Answering A) (Waits : Waiting A) (Fails : Type 0) (x y z : A) (a b c t u v : Option (List ℕ)) (old mid : Pending) (head : Head)
-    → Runs Answers x y a b t u old → TookHead b c old mid head → Begins (Answers y z) (Waits y z head []) Fails head u v (Ok Answered) → Runs Answers x z a c t v mid
-begin_answered Answers Waits Fails x y z a b c t u v old mid head r k (answer, answers, empty, goes, wrote) =
-    answered Answers x y z a b c t u v old mid head [] answer r (took_both b c c old mid mid head [] k (empty_content c mid head.framing empty)) goes (answers (stream.whole head []) refl) wrote
+pub begin_answered : {A : Type 0} (Answers : Answering A) (Waits : Waiting A) (Fails : Type 0) (is_over : A → Bool) (x y z : A) (a b c t u v : Option (List ℕ)) (old mid : Pending) (head : Head)
+    → Runs Answers is_over x y a b t u old → TookHead b c old mid head → Begins (Answers y z) (Waits y z head []) Fails head u v (Ok Answered) → is_over z ≡ false → Runs Answers is_over x z a c t v mid
+begin_answered Answers Waits Fails is_over x y z a b c t u v old mid head r k (answer, answers, empty, goes, wrote) not =
+    answered Answers is_over x y z a b c t u v old mid head [] answer r (took_both b c c old mid mid head [] k (empty_content c mid head.framing empty)) goes (answers (stream.whole head []) refl) not wrote
 
 -- whole, and the session ends, whatever stands behind the head
-pub denied : {A : Type 0} (Answers : Answering A) (x y z : A) (a b c d t u v : Option (List ℕ)) (old mid new : Pending) (head : Head) (answer content : List ℕ)
-    → Runs Answers x y a b t u old → TookHead b c old mid head → Moves c d mid new content → AnswersAll (Answers y z) head answer → Appends u v answer → HasDenied Answers x z a d t v
-denied Answers x y z a b c d t u v old mid new head answer content r k m answers wrote =
+pub denied : {A : Type 0} (Answers : Answering A) (is_over : A → Bool) (x y z : A) (a b c d t u v : Option (List ℕ)) (old mid new : Pending) (head : Head) (answer content : List ℕ)
+    → Runs Answers is_over x y a b t u old → TookHead b c old mid head → Moves c d mid new content → AnswersAll (Answers y z) head answer → Appends u v answer → HasDenied Answers is_over x z a d t v
+denied Answers is_over x y z a b c d t u v old mid new head answer content r k m answers wrote =
     let came : List ℕ = k.moves.came ++ m.came in
     let all : r.read ++ came ≡ r.done ++ (k.taken ++ (mid.waiting ++ m.came))
     = all_read r.done old.waiting came r.read r.parts ∙ ap (λ (l : List ℕ). r.done ++ l) (behind_head b c old mid head m.came k) in
@@ -102,30 +102,30 @@ denied Answers x y z a b c d t u v old mid new head answer content r k m answers
           (within_all r.read came old.total r.count r.few (within_both k.moves.came m.came old.total mid.total k.moves.count k.moves.within (λ lt. omega (arith, m.count, m.within lt))));
       holds = r.holds;
       accepts = k.accepts;
-      made = λ item is. Chain-append Answers x y z r.front (item ∷ []) r.written answer r.made (Chain-one Answers y z item answer (answers item is));
+      made = λ item is. Chain-append Answers is_over x y z r.front (item ∷ []) r.written answer r.not_over r.made (Chain-one Answers is_over y z item answer (answers item is));
       wrote = Appends-trans t u v r.written answer r.wrote wrote;
     }
 
-pub begin_last : {A : Type 0} (Answers : Answering A) (Waits : Waiting A) (Fails : Type 0) (x y z : A) (a b c t u v : Option (List ℕ)) (old mid : Pending) (head : Head)
-    → Runs Answers x y a b t u old → TookHead b c old mid head → Begins (Answers y z) (Waits y z head []) Fails head u v (Ok Last) → HasDenied Answers x z a c t v
-begin_last Answers Waits Fails x y z a b c t u v old mid head r k (answer, answers, wrote) =
-    denied Answers x y z a b c c t u v old mid mid head answer [] r k (unmoved c mid) answers wrote
+pub begin_last : {A : Type 0} (Answers : Answering A) (Waits : Waiting A) (Fails : Type 0) (is_over : A → Bool) (x y z : A) (a b c t u v : Option (List ℕ)) (old mid : Pending) (head : Head)
+    → Runs Answers is_over x y a b t u old → TookHead b c old mid head → Begins (Answers y z) (Waits y z head []) Fails head u v (Ok Last) → HasDenied Answers is_over x z a c t v
+begin_last Answers Waits Fails is_over x y z a b c t u v old mid head r k (answer, answers, wrote) =
+    denied Answers is_over x y z a b c c t u v old mid mid head answer [] r k (unmoved c mid) answers wrote
 
 -- ---- the request was answered while its content came
 
 -- what was said before belongs to the answer
-pub denied_whole : {A : Type 0} (Answers : Answering A) (Waits : Waiting A) (Fails : A → A → Type 0) (x y p z : A) (a b c d t u v w : Option (List ℕ)) (old mid new : Pending) (head : Head) (content : List ℕ)
-    → Runs Answers x y a b t u old → TookHead b c old mid head → Wants Waits y p head u v [] → Moves c d mid new content → IsDenied Answers Waits Fails p z head v w (Ok tt) → HasDenied Answers x z a d t w
-denied_whole Answers Waits Fails x y p z a b c d t u v w old mid new head content r k n m f =
+pub denied_whole : {A : Type 0} (Answers : Answering A) (Waits : Waiting A) (Fails : A → A → Type 0) (is_over : A → Bool) (x y p z : A) (a b c d t u v w : Option (List ℕ)) (old mid new : Pending) (head : Head) (content : List ℕ)
+    → Runs Answers is_over x y a b t u old → TookHead b c old mid head → Wants Waits y p head u v [] → Moves c d mid new content → IsDenied Answers Waits Fails p z head v w (Ok tt) → HasDenied Answers is_over x z a d t w
+denied_whole Answers Waits Fails is_over x y p z a b c d t u v w old mid new head content r k n m f =
     let g = f y n.said n.waits in
-    denied Answers x y z a b c d t u w old mid new head (n.said ++ g.0) content r k m g.1 (Appends-trans u v w n.said g.0 n.wrote g.2)
+    denied Answers is_over x y z a b c d t u w old mid new head (n.said ++ g.0) content r k m g.1 (Appends-trans u v w n.said g.0 n.wrote g.2)
 
-pub denied_part : {A : Type 0} (Answers : Answering A) (Waits : Waiting A) (Fails : A → A → Type 0) (IsOver : A → Type 0) (x y p z : A) (a b c d t u v w : Option (List ℕ)) (e : Bool) (old mid new : Pending) (head : Head) (content : List ℕ) (why : Unsaid)
-    → Runs Answers x y a b t u old → TookHead b c old mid head → Wants Waits y p head u v [] → Moves c d mid new content → IsDenied Answers Waits Fails p z head v w (Err why) → EndsAs Answers Fails IsOver (unsaid_end why) x z a d e t w
-denied_part {A} Answers Waits Fails IsOver x y p z a b c d t u v w e old mid new head content why r k n m f =
+pub denied_part : {A : Type 0} (Answers : Answering A) (Waits : Waiting A) (Fails : A → A → Type 0) (is_over : A → Bool) (x y p z : A) (a b c d t u v w : Option (List ℕ)) (e : Bool) (old mid new : Pending) (head : Head) (content : List ℕ) (why : Unsaid)
+    → Runs Answers is_over x y a b t u old → TookHead b c old mid head → Wants Waits y p head u v [] → Moves c d mid new content → IsDenied Answers Waits Fails p z head v w (Err why) → EndsAs Answers Fails is_over (unsaid_end why) x z a d e t w
+denied_part {A} Answers Waits Fails is_over x y p z a b c d t u v w e old mid new head content why r k n m f =
     let o = opened b c old mid head k in
     let F : Type 0 = (q : A) × Fails q z in
-    unsaid_ends Answers Fails IsOver x y z a b d t u w e old (k.moves.came ++ m.came) k.taken (mid.waiting ++ m.came) (unread head) o.0 why r
+    unsaid_ends Answers Fails is_over x y z a b d t u w e old (k.moves.came ++ m.came) k.taken (mid.waiting ++ m.came) (unread head) o.0 why r
     (Consumes-trans b c d k.moves.came m.came k.moves.consumed m.consumed) (behind_head b c old mid head m.came k) o.1
     (joined (Answers y z (unread head)) F F n.said u v w (Err why) (λ x. x) n.wrote
     (answered_as (AnswersAll (Answers y z) head) (Answers y z (unread head)) F n.said v w (Err why) (λ bytes g. g (unread head) (IsOf-unread head)) (f y n.said n.waits)))
@@ -133,53 +133,53 @@ denied_part {A} Answers Waits Fails IsOver x y p z a b c d t u v w e old mid new
 -- ---- the content came whole
 
 -- the request was answered, and doesn't close
-pub whole_answered : {A : Type 0} (Answers : Answering A) (Waits : Waiting A) (Fails : Type 0) (x y p z : A) (a b c t u v w : Option (List ℕ)) (old new : Pending) (head : Head) (content : List ℕ)
-    → Runs Answers x y a b t u old → Took b c old new head content → (n : Wants Waits y p head u v content) → head.closes ≡ false
-    → IsAnswered (Answers y z (stream.whole head content)) Fails n.said v w (Ok tt) → Runs Answers x z a c t w new
-whole_answered Answers Waits Fails x y p z a b c t u v w old new head content r k n goes (answer, is, wrote) =
-    answered Answers x y z a b c t u w old new head content (n.said ++ answer) r k goes is (Appends-trans u v w n.said answer n.wrote wrote)
+pub whole_answered : {A : Type 0} (Answers : Answering A) (Waits : Waiting A) (Fails : Type 0) (is_over : A → Bool) (x y p z : A) (a b c t u v w : Option (List ℕ)) (old new : Pending) (head : Head) (content : List ℕ)
+    → Runs Answers is_over x y a b t u old → Took b c old new head content → (n : Wants Waits y p head u v content) → head.closes ≡ false
+    → IsAnswered (Answers y z (stream.whole head content)) Fails n.said v w (Ok tt) → is_over z ≡ false → Runs Answers is_over x z a c t w new
+whole_answered Answers Waits Fails is_over x y p z a b c t u v w old new head content r k n goes (answer, is, wrote) not =
+    answered Answers is_over x y z a b c t u w old new head content (n.said ++ answer) r k goes is not (Appends-trans u v w n.said answer n.wrote wrote)
 
 -- it closes
-whole_closed : {A : Type 0} (Answers : Answering A) (Waits : Waiting A) (IsOver : A → Type 0) (G : Type 0) (x y p z : A) (a b c t u v w : Option (List ℕ)) (old new : Pending) (head : Head) (content : List ℕ)
-    → Runs Answers x y a b t u old → Took b c old new head content → (n : Wants Waits y p head u v content) → head.closes ≡ true
-    → IsAnswered (Answers y z (stream.whole head content)) G n.said v w (Ok tt) → IsOver z → HasClosed Answers IsOver x z a c t w
-whole_closed Answers Waits IsOver G x y p z a b c t u v w old new head content r k n closes (answer, is, wrote) over =
+whole_closed : {A : Type 0} (Answers : Answering A) (Waits : Waiting A) (is_over : A → Bool) (G : Type 0) (x y p z : A) (a b c t u v w : Option (List ℕ)) (old new : Pending) (head : Head) (content : List ℕ)
+    → Runs Answers is_over x y a b t u old → Took b c old new head content → (n : Wants Waits y p head u v content) → head.closes ≡ true
+    → IsAnswered (Answers y z (stream.whole head content)) G n.said v w (Ok tt) → is_over z ≡ true → HasClosed Answers is_over x z a c t w
+whole_closed Answers Waits is_over G x y p z a b c t u v w old new head content r k n closes (answer, is, wrote) over =
     let holds : AreRequests (old.waiting ++ k.came) (stream.whole head content ∷ []) false
     = subst (λ (l : List ℕ). AreRequests l (stream.whole head content ∷ []) false) (sym k.parts) (stands_last b c old new head content k closes new.waiting) in
-    all_closed Answers IsOver x y z a b c t u w old k.came (n.said ++ answer) (stream.whole head content) r k.consumed (λ lt. omega (arith, k.count, k.within r.few)) holds is
+    all_closed Answers is_over x y z a b c t u w old k.came (n.said ++ answer) (stream.whole head content) r k.consumed (λ lt. omega (arith, k.count, k.within r.few)) holds is
     (Appends-trans u v w n.said answer n.wrote wrote) closes over
 
 -- the answer ended the session, whether the request closes or not
-pub whole_last : {A : Type 0} (Answers : Answering A) (Waits : Waiting A) (IsOver : A → Type 0) (G : Type 0) (x y p z : A) (a b c t u v w : Option (List ℕ)) (old new : Pending) (head : Head) (content : List ℕ)
-    → Runs Answers x y a b t u old → Took b c old new head content → (n : Wants Waits y p head u v content)
-    → IsAnswered (Answers y z (stream.whole head content)) G n.said v w (Ok tt) → IsOver z → HasClosed Answers IsOver x z a c t w
-whole_last Answers Waits IsOver G x y p z a b c t u v w old new head content r k n h over = by_close head.closes refl
+pub whole_last : {A : Type 0} (Answers : Answering A) (Waits : Waiting A) (is_over : A → Bool) (G : Type 0) (x y p z : A) (a b c t u v w : Option (List ℕ)) (old new : Pending) (head : Head) (content : List ℕ)
+    → Runs Answers is_over x y a b t u old → Took b c old new head content → (n : Wants Waits y p head u v content)
+    → IsAnswered (Answers y z (stream.whole head content)) G n.said v w (Ok tt) → is_over z ≡ true → HasClosed Answers is_over x z a c t w
+whole_last Answers Waits is_over G x y p z a b c t u v w old new head content r k n h over = by_close head.closes refl
   where
-    by_close : (closes : Bool) → head.closes ≡ closes → HasClosed Answers IsOver x z a c t w
-    by_close true e = whole_closed Answers Waits IsOver G x y p z a b c t u v w old new head content r k n e h over
-    by_close false e =
-        let wrote : Appends u w (n.said ++ h.0) = Appends-trans u v w n.said h.0 n.wrote h.2 in
-        all_stopped Answers IsOver x z a c t w new (answered Answers x y z a b c t u w old new head content (n.said ++ h.0) r k e h.1 wrote)
-        (answered_some Answers x y z a b c t u w old new head content (n.said ++ h.0) r k e h.1 wrote) over
+    by_close : (closes : Bool) → head.closes ≡ closes → HasClosed Answers is_over x z a c t w
+    by_close true e = whole_closed Answers Waits is_over G x y p z a b c t u v w old new head content r k n e h over
+    by_close false e = (
+      inr (inr (all_stopped Answers is_over x y z a b c t u w old new head content (n.said ++ h.0) r k e h.1 (Appends-trans u v w n.said h.0 n.wrote h.2))),
+      over,
+    )
 
 -- it was answered in part
-pub whole_unsaid : {A : Type 0} (Answers : Answering A) (Waits : Waiting A) (Fails : A → A → Type 0) (IsOver : A → Type 0) (x y p z : A) (a b c t u v w : Option (List ℕ)) (e : Bool) (old new : Pending) (head : Head) (content : List ℕ) (why : Unsaid)
-    → Runs Answers x y a b t u old → Took b c old new head content → (n : Wants Waits y p head u v content)
-    → IsAnswered (Answers y z (stream.whole head content)) (Fails p z) n.said v w (Err why) → EndsAs Answers Fails IsOver (unsaid_end why) x z a c e t w
-whole_unsaid {A} Answers Waits Fails IsOver x y p z a b c t u v w e old new head content why r k n h =
-    unsaid_ends Answers Fails IsOver x y z a b c t u w e old k.came k.text new.waiting (stream.whole head content) false why r k.consumed k.parts (stands_alone b c old new head content k)
+pub whole_unsaid : {A : Type 0} (Answers : Answering A) (Waits : Waiting A) (Fails : A → A → Type 0) (is_over : A → Bool) (x y p z : A) (a b c t u v w : Option (List ℕ)) (e : Bool) (old new : Pending) (head : Head) (content : List ℕ) (why : Unsaid)
+    → Runs Answers is_over x y a b t u old → Took b c old new head content → (n : Wants Waits y p head u v content)
+    → IsAnswered (Answers y z (stream.whole head content)) (Fails p z) n.said v w (Err why) → EndsAs Answers Fails is_over (unsaid_end why) x z a c e t w
+whole_unsaid {A} Answers Waits Fails is_over x y p z a b c t u v w e old new head content why r k n h =
+    unsaid_ends Answers Fails is_over x y z a b c t u w e old k.came k.text new.waiting (stream.whole head content) false why r k.consumed k.parts (stands_alone b c old new head content k)
     (joined (Answers y z (stream.whole head content)) (Fails p z) ((q : A) × Fails q z) n.said u v w (Err why) (λ f. (p, f)) n.wrote h)
 
 -- ---- the content is refused
 
-pub stopped : {A : Type 0} (Answers : Answering A) (Waits : Waiting A) (Fails : A → A → Type 0) (IsOver : A → Type 0) (x y p q z : A) (a b c d t u v v' w : Option (List ℕ)) (e : Bool) (old mid : Pending) (head : Head) (why : BodyErr)
-    (result : Result (Unit {0}) Unsaid) → Runs Answers x y a b t u old → TookHead b c old mid head → Wants Waits y p head u v [] → MetStop (HandsOver Waits p q head v v') c d mid head.framing why
+pub stopped : {A : Type 0} (Answers : Answering A) (Waits : Waiting A) (Fails : A → A → Type 0) (is_over : A → Bool) (x y p q z : A) (a b c d t u v v' w : Option (List ℕ)) (e : Bool) (old mid : Pending) (head : Head) (why : BodyErr)
+    (result : Result (Unit {0}) Unsaid) → Runs Answers is_over x y a b t u old → TookHead b c old mid head → Wants Waits y p head u v [] → MetStop (HandsOver Waits p q head v v') c d mid head.framing why
     → ((start : A) (content said : List ℕ) → Waits start q head content said → IsAnswered (Answers start z (stream.stopped head content why)) (Fails q z) said v' w result)
-    → OnOk result (IsOver z) → EndsAs Answers Fails IsOver (result_end result) x z a d e t w
-stopped {A} Answers Waits Fails IsOver x y p q z a b c d t u v v' w e old mid head why result r k n (came, content, m, i, f, h) said over =
+    → OnOk result (is_over z ≡ true) → EndsAs Answers Fails is_over (result_end result) x z a d e t w
+stopped {A} Answers Waits Fails is_over x y p q z a b c d t u v v' w e old mid head why result r k n (came, content, m, i, f, h) said over =
     let body : HoldsBody head.framing (mid.waiting ++ came) (stop_of content why) = subst (λ (l : List ℕ). HoldsBody head.framing l (stop_of content why)) (append-nil (mid.waiting ++ came)) (f []) in
     let o : Wants Waits y q head u v' content = handed Waits y p q head u v v' content n h in
-    result_ends Answers Fails IsOver x y z a b d t u w e old (k.moves.came ++ came) (stream.stopped head content why) result r (Consumes-trans b c d k.moves.came came k.moves.consumed m)
+    result_ends Answers Fails is_over x y z a b d t u w e old (k.moves.came ++ came) (stream.stopped head content why) result r (Consumes-trans b c d k.moves.came came k.moves.consumed m)
     (within_both k.moves.came came old.total mid.total k.moves.count k.moves.within i) (asks b c old mid head came (stop_of content why) k body, refl, refl) refl
     (joined (Answers y z (stream.stopped head content why)) (Fails q z) ((s : A) × Fails s z) o.said u v' w result (λ g. (q, g)) o.wrote (said y content o.said o.waits)) over
 
@@ -194,42 +194,42 @@ cut_holds b c old mid head came content k h = (asks b c old mid head came (readi
 abbrev pub Cuts : {A : Type 0} → Answering A → Waiting A → A → A → Head → Type 0
 Cuts {A} Answers Waits q z head = (start : A) (content said : List ℕ) → Waits start q head content said → is_put head.method ≡ true → Answers start z (stream.cut head content) said
 
-pub cut_ended : {A : Type 0} (Answers : Answering A) (Waits : Waiting A) (Fails : A → A → Type 0) (IsOver : A → Type 0) (x y p q z : A) (a b c d t u v w : Option (List ℕ)) (e : Bool) (old mid : Pending) (head : Head)
-    → Runs Answers x y a b t u old → TookHead b c old mid head → Wants Waits y p head u v [] → Cuts Answers Waits q z head
-    → MetEnd c d e mid.total (IsCut (HandsOver Waits p q head v w) mid head.framing) → EndsAs Answers Fails IsOver ends.Cut x z a d e t w
-cut_ended Answers Waits Fails IsOver x y p q z a b c d t u v w e old mid head r k n f m =
+pub cut_ended : {A : Type 0} (Answers : Answering A) (Waits : Waiting A) (Fails : A → A → Type 0) (is_over : A → Bool) (x y p q z : A) (a b c d t u v w : Option (List ℕ)) (e : Bool) (old mid : Pending) (head : Head)
+    → Runs Answers is_over x y a b t u old → TookHead b c old mid head → Wants Waits y p head u v [] → Cuts Answers Waits q z head
+    → MetEnd c d e mid.total (IsCut (HandsOver Waits p q head v w) mid head.framing) → EndsAs Answers Fails is_over ends.Cut x z a d e t w
+cut_ended Answers Waits Fails is_over x y p q z a b c d t u v w e old mid head r k n f m =
     let content = m.stands.0 in
     let put = put_if_cut head (mid.waiting ++ m.came) content k.fits m.stands.1 in
     let o : Wants Waits y q head u w content = handed Waits y p q head u v w content n m.stands.2 in (
-      all_said Answers x y z a b d t u w old (k.moves.came ++ m.came) o.said (stream.cut head content ∷ []) true r (Consumes-trans b c d k.moves.came m.came k.moves.consumed m.consumed)
+      all_said Answers is_over x y z a b d t u w old (k.moves.came ++ m.came) o.said (stream.cut head content ∷ []) true r (Consumes-trans b c d k.moves.came m.came k.moves.consumed m.consumed)
           (within_both k.moves.came m.came old.total mid.total k.moves.count k.moves.within m.within) (cut_holds b c old mid head m.came content k m.stands.1)
-          (Chain-one Answers y z (stream.cut head content) o.said (f y content o.said o.waits put)) o.wrote,
+          (Chain-one Answers is_over y z (stream.cut head content) o.said (f y content o.said o.waits put)) o.wrote,
       m.at_end,
       m.told,
     )
 
-pub cut_halted : {A : Type 0} (Answers : Answering A) (Waits : Waiting A) (Fails : A → A → Type 0) (IsOver : A → Type 0) (x y p q z : A) (a b c d t u v w : Option (List ℕ)) (e : Bool) (old mid : Pending) (head : Head) (reads reads' : ℕ) (h : Halt)
-    → Runs Answers x y a b t u old → TookHead b c old mid head → Wants Waits y p head u v [] → Cuts Answers Waits q z head
-    → ContentHalts (IsCut (HandsOver Waits p q head v w) mid head.framing) c d mid.total reads reads' h → EndsAs Answers Fails IsOver (halt_end h) x z a d e t w
-cut_halted Answers Waits Fails IsOver x y p q z a b c d t u v w e old mid head reads reads' halts.ReadFault r k n f (came, m, (content, s, hands), i, rose) =
+pub cut_halted : {A : Type 0} (Answers : Answering A) (Waits : Waiting A) (Fails : A → A → Type 0) (is_over : A → Bool) (x y p q z : A) (a b c d t u v w : Option (List ℕ)) (e : Bool) (old mid : Pending) (head : Head) (reads reads' : ℕ) (h : Halt)
+    → Runs Answers is_over x y a b t u old → TookHead b c old mid head → Wants Waits y p head u v [] → Cuts Answers Waits q z head
+    → ContentHalts (IsCut (HandsOver Waits p q head v w) mid head.framing) c d mid.total reads reads' h → EndsAs Answers Fails is_over (halt_end h) x z a d e t w
+cut_halted Answers Waits Fails is_over x y p q z a b c d t u v w e old mid head reads reads' halts.ReadFault r k n f (came, m, (content, s, hands), i, rose) =
     let put = put_if_cut head (mid.waiting ++ came) content k.fits s in
     let o : Wants Waits y q head u w content = handed Waits y p q head u v w content n hands in (
       true,
-      all_said Answers x y z a b d t u w old (k.moves.came ++ came) o.said (stream.cut head content ∷ []) true r (Consumes-trans b c d k.moves.came came k.moves.consumed m)
+      all_said Answers is_over x y z a b d t u w old (k.moves.came ++ came) o.said (stream.cut head content ∷ []) true r (Consumes-trans b c d k.moves.came came k.moves.consumed m)
           (within_both k.moves.came came old.total mid.total k.moves.count k.moves.within i) (cut_holds b c old mid head came content k s)
-          (Chain-one Answers y z (stream.cut head content) o.said (f y content o.said o.waits put)) o.wrote,
+          (Chain-one Answers is_over y z (stream.cut head content) o.said (f y content o.said o.waits put)) o.wrote,
     )
-cut_halted Answers Waits Fails IsOver x y p q z a b c d t u v w e old mid head reads reads' halts.InputTooLong r k n f (came, over, some, m, full, (content, s, hands)) =
+cut_halted Answers Waits Fails is_over x y p q z a b c d t u v w e old mid head reads reads' halts.InputTooLong r k n f (came, over, some, m, full, (content, s, hands)) =
     let put = put_if_cut head (mid.waiting ++ came) content k.fits s in
     let o : Wants Waits y q head u w content = handed Waits y p q head u v w content n hands in
-    first_said Answers x y z a b d t u w old (k.moves.came ++ came) over o.said (stream.cut head content ∷ []) true r
+    first_said Answers is_over x y z a b d t u w old (k.moves.came ++ came) over o.said (stream.cut head content ∷ []) true r
     (subst (Consumes b d) (sym (append_assoc k.moves.came came over)) (Consumes-trans b c d k.moves.came (came ++ over) k.moves.consumed m)) some
     (omega (arith, length-append k.moves.came came, k.moves.count, full)) (cut_holds b c old mid head came content k s)
-    (Chain-one Answers y z (stream.cut head content) o.said (f y content o.said o.waits put)) o.wrote
-cut_halted Answers Waits Fails IsOver x y p q z a b c d t u v w e old mid head reads reads' halts.NoMemory r k n f (came, over, m, (content, s, hands), i) =
+    (Chain-one Answers is_over y z (stream.cut head content) o.said (f y content o.said o.waits put)) o.wrote
+cut_halted Answers Waits Fails is_over x y p q z a b c d t u v w e old mid head reads reads' halts.NoMemory r k n f (came, over, m, (content, s, hands), i) =
     let put = put_if_cut head (mid.waiting ++ came) content k.fits s in
     let o : Wants Waits y q head u w content = handed Waits y p q head u v w content n hands in
-    of_said Answers x y z a b d t u w old (k.moves.came ++ came) over o.said (stream.cut head content ∷ []) true r
+    of_said Answers is_over x y z a b d t u w old (k.moves.came ++ came) over o.said (stream.cut head content ∷ []) true r
     (subst (Consumes b d) (sym (append_assoc k.moves.came came over)) (Consumes-trans b c d k.moves.came (came ++ over) k.moves.consumed m))
     (within_both k.moves.came came old.total mid.total k.moves.count k.moves.within i) (cut_holds b c old mid head came content k s)
-    (Chain-one Answers y z (stream.cut head content) o.said (f y content o.said o.waits put)) o.wrote
+    (Chain-one Answers is_over y z (stream.cut head content) o.said (f y content o.said o.waits put)) o.wrote

@@ -1,5 +1,5 @@
 -- The steps of a session.
-use Rattle.std.proofs.Common.{◌≡◌, ℕ, zero, suc, ◌+◌, ◌<◌, ◌≤◌, Bool, true, false, List, [], ◌∷◌, ◌++◌, length, refl, sym, ap, ◌∙◌, subst, arith, inl, inr, append_assoc, append-nil, length-append}
+use Rattle.std.proofs.Common.{◌≡◌, ◌⊎◌, ℕ, zero, suc, ◌+◌, ◌<◌, ◌≤◌, Bool, true, false, List, [], ◌∷◌, ◌++◌, length, refl, sym, ap, ◌∙◌, subst, arith, inl, inr, append_assoc, append-nil, length-append}
 use Rattle.std.specs.declared.option.Option.{Option}
 use Rattle.std.specs.Io.KnownBytes.{Consumes, Appends}
 use Rattle.std.proofs.KnownBytes.{Consumes-nil, Consumes-trans, Appends-nil, Appends-trans}
@@ -15,7 +15,8 @@ use Rattle.http_front.specs.Chains.{Answering, Chain}
 use Rattle.http_front.proofs.Chained.{Chain-one, Chain-append}
 
 -- Where a session stands: the requests `front` were taken from the bytes `done`, and they were answered one after another, with what was written.
-pub record Runs {A : Type 0} (Answers : Answering A) (x y : A) (left left' taken taken' : Option (List ℕ)) (now : Pending) : Type 0 where
+-- No answer ended the session.
+pub record Runs {A : Type 0} (Answers : Answering A) (is_over : A → Bool) (x y : A) (left left' taken taken' : Option (List ℕ)) (now : Pending) : Type 0 where
   pub done : List ℕ
   pub front : List Item
   pub read : List ℕ
@@ -26,10 +27,11 @@ pub record Runs {A : Type 0} (Answers : Answering A) (x y : A) (left left' taken
   pub few : now.total ≤ input_limit
   pub wrote : Appends taken taken' written
   pub holds : (more : List ℕ) (items : List Item) (inside : Bool) → AreRequests more items inside → AreRequests (done ++ more) (front ++ items) inside
-  pub made : Chain Answers x front written y
+  pub made : Chain Answers is_over x front written y
+  pub not_over : (is_over y ≡ false) ⊎ (front ≡ [])
 
-pub started : {A : Type 0} (Answers : Answering A) (x : A) (a t : Option (List ℕ)) (now : Pending) → now ≡ record { waiting = []; total = 0 } → Runs Answers x x a a t t now
-started Answers x a t now e = record {
+pub started : {A : Type 0} (Answers : Answering A) (is_over : A → Bool) (x : A) (a t : Option (List ℕ)) (now : Pending) → now ≡ record { waiting = []; total = 0 } → Runs Answers is_over x x a a t t now
+started Answers is_over x a t now e = record {
   done = [];
   front = [];
   read = [];
@@ -41,6 +43,7 @@ started Answers x a t now e = record {
   wrote = Appends-nil t;
   holds = λ more items inside h. h;
   made = (refl, refl);
+  not_over = inr refl;
 }
 
 -- the bytes that were read, when more came
@@ -97,7 +100,7 @@ stands_alone a b old new asked content k = subst (λ (l : List ℕ). AreRequests
     by_close false e = stands_first a b old new asked content k e [] [] false refl
 
 -- the requests that were taken, and one more behind them
-taken_holds : (done step : List ℕ) (front : List Item) (item : Item)
+pub taken_holds : (done step : List ℕ) (front : List Item) (item : Item)
     → ((more : List ℕ) (items : List Item) (inside : Bool) → AreRequests more items inside → AreRequests (done ++ more) (front ++ items) inside)
     → ((more : List ℕ) (items : List Item) (inside : Bool) → AreRequests more items inside → AreRequests (step ++ more) (item ∷ items) inside)
     → (more : List ℕ) (items : List Item) (inside : Bool) → AreRequests more items inside → AreRequests ((done ++ step) ++ more) ((front ++ item ∷ []) ++ items) inside
@@ -105,26 +108,24 @@ taken_holds done step front item f g more items inside h =
     subst (λ (l : List ℕ). AreRequests l ((front ++ item ∷ []) ++ items) inside) (sym (append_assoc done step more))
     (subst (λ (l : List Item). AreRequests (done ++ (step ++ more)) l inside) (sym (append_assoc front (item ∷ []) items)) (f (step ++ more) (item ∷ items) inside (g more items inside h)))
 
+-- the bytes that were read, when a request was taken
+pub read_behind : (b c : Option (List ℕ)) (old new : Pending) (asked : Head) (content done read : List ℕ) → read ≡ done ++ old.waiting → (k : Took b c old new asked content) → read ++ k.came ≡ (done ++ k.text) ++ new.waiting
+read_behind b c old new asked content done read e k = all_read done old.waiting k.came read e ∙ ap (λ (l : List ℕ). done ++ l) k.parts ∙ sym (append_assoc done k.text new.waiting)
+
 -- the request was answered, and the session goes on
-pub answered : {A : Type 0} (Answers : Answering A) (x y z : A) (a b c t u v : Option (List ℕ)) (old new : Pending) (asked : Head) (content answer : List ℕ)
-    → (r : Runs Answers x y a b t u old) → Took b c old new asked content → asked.closes ≡ false → Answers y z (stream.whole asked content) answer → Appends u v answer → Runs Answers x z a c t v new
-answered Answers x y z a b c t u v old new asked content answer r k goes is wrote = record {
+pub answered : {A : Type 0} (Answers : Answering A) (is_over : A → Bool) (x y z : A) (a b c t u v : Option (List ℕ)) (old new : Pending) (asked : Head) (content answer : List ℕ)
+    → (r : Runs Answers is_over x y a b t u old) → Took b c old new asked content → asked.closes ≡ false → Answers y z (stream.whole asked content) answer → is_over z ≡ false → Appends u v answer → Runs Answers is_over x z a c t v new
+answered Answers is_over x y z a b c t u v old new asked content answer r k goes is not wrote = record {
   done = r.done ++ k.text;
   front = r.front ++ stream.whole asked content ∷ [];
   read = r.read ++ k.came;
   written = r.written ++ answer;
   consumed = Consumes-trans a b c r.read k.came r.consumed k.consumed;
-  parts = all_read r.done old.waiting k.came r.read r.parts ∙ ap (λ (l : List ℕ). r.done ++ l) k.parts ∙ sym (append_assoc r.done k.text new.waiting);
+  parts = read_behind b c old new asked content r.done r.read r.parts k;
   count = omega (arith, length-append r.read k.came, r.count, k.count);
   few = k.within r.few;
   wrote = Appends-trans t u v r.written answer r.wrote wrote;
   holds = taken_holds r.done k.text r.front (stream.whole asked content) r.holds (stands_first b c old new asked content k goes);
-  made = Chain-append Answers x y z r.front (stream.whole asked content ∷ []) r.written answer r.made (Chain-one Answers y z (stream.whole asked content) answer is);
+  made = Chain-append Answers is_over x y z r.front (stream.whole asked content ∷ []) r.written answer r.not_over r.made (Chain-one Answers is_over y z (stream.whole asked content) answer is);
+  not_over = inl not;
 }
-
--- one request at least
-pub answered_some : {A : Type 0} (Answers : Answering A) (x y z : A) (a b c t u v : Option (List ℕ)) (old new : Pending) (asked : Head) (content answer : List ℕ)
-    → (r : Runs Answers x y a b t u old) → (k : Took b c old new asked content) → (goes : asked.closes ≡ false) → (is : Answers y z (stream.whole asked content) answer) → (wrote : Appends u v answer)
-    → 0 < length (answered Answers x y z a b c t u v old new asked content answer r k goes is wrote).front
-unfolding answered
-answered_some Answers x y z a b c t u v old new asked content answer r k goes is wrote = omega (arith, length-append r.front (stream.whole asked content ∷ []))

@@ -95,9 +95,9 @@ IsContent Hands Denies left left' ended reads reads' old new framing contents.La
 IsContent Hands Denies left left' ended reads reads' old new framing (contents.Unsaid why) = (taken : List ℕ) × Moves left left' old new taken × Denies (Err why)
 
 -- the session is over where the request was answered meanwhile
-abbrev pub IsOverIfDenied : Type 0 → Content → Type 0
-IsOverIfDenied IsOver contents.Last = IsOver
-IsOverIfDenied IsOver content = Unit {0}
+abbrev pub EndsIfDenied : Bool → Content → Type 0
+EndsIfDenied over contents.Last = over ≡ true
+EndsIfDenied over content = Unit {0}
 
 -- a fault of writing only where the sink's count rose
 abbrev pub HasContentCause : ℕ → ℕ → Content → Type 0

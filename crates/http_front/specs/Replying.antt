@@ -55,15 +55,21 @@ Finishes Is Fails closes said taken taken' (Ok fed.Taken) = (closes ≡ false) �
 Finishes Is Fails closes said taken taken' (Ok fed.Last) = IsAnswered Is Fails said taken taken' (Ok tt)
 Finishes Is Fails closes said taken taken' (Err why) = IsAnswered Is Fails said taken taken' (Err why)
 
--- the session is over where that was the last answer
-abbrev pub IsOverAtLast : Type 0 → Begun → Type 0
-IsOverAtLast IsOver Wanted = Unit {0}
-IsOverAtLast IsOver Answered = Unit {0}
-IsOverAtLast IsOver Last = IsOver
+-- whether the session is over, behind the answer to a head
+abbrev pub EndsAtLast : Bool → Begun → Type 0
+EndsAtLast over Wanted = Unit {0}
+EndsAtLast over Answered = over ≡ false
+EndsAtLast over Last = over ≡ true
 
-abbrev pub IsOverIfLast : Type 0 → Fed → Type 0
-IsOverIfLast IsOver fed.Taken = Unit {0}
-IsOverIfLast IsOver fed.Last = IsOver
+-- behind a part of a content
+abbrev pub EndsIfLast : Bool → Fed → Type 0
+EndsIfLast over fed.Taken = Unit {0}
+EndsIfLast over fed.Last = over ≡ true
+
+-- and behind the answer to a whole content
+abbrev pub EndsJustAtLast : Bool → Fed → Type 0
+EndsJustAtLast over fed.Taken = over ≡ false
+EndsJustAtLast over fed.Last = over ≡ true
 
 -- a fault of writing only where the sink's count rose
 abbrev pub HasSinkCause : {A : Type 0} → ℕ → ℕ → Result A Unsaid → Type 0

@@ -17,7 +17,7 @@ pub fn run_session<R: Replies, S: Source, K: Sink>(
     input: &mut S,
     output: &mut K,
 ) -> End
-    ensures said { EndsAs R.Answers R.Fails R.IsOver result replies.old replies.new (S.left input.old) (S.left input.new) (S.ended input.new) (K.taken output.old) (K.taken output.new) }
+    ensures said { EndsAs R.Answers R.Fails R.is_over result replies.old replies.new (S.left input.old) (S.left input.new) (S.ended input.new) (K.taken output.old) (K.taken output.new) }
     ensures cause { HasEndCause result (S.faults input.old) (S.faults input.new) (K.faults output.old) (K.faults output.new) }
 {
     let mut buffer = Buffer::new(alloc);
