@@ -1,7 +1,7 @@
 //! Sessions over a source and a sink in memory, with replies that answer each request by a line.
 
-ghost use Rattle.std.specs.Prelude.{◌<◌, List, ℕ};
-ghost use Rattle.http_front.specs.Replying.{IsAnswered, HasSinkCause};
+ghost use Rattle.std.specs.Prelude.{◌<◌, List, ℕ, OnOk, IfOk};
+ghost use Rattle.http_front.specs.Replying.{IsAnswered, Finishes, IsOverIfLast, HasSinkCause};
 
 use crate::{Begun, End, Fed, Replies, Unsaid, run_session};
 use http_heads::{BodyErr, Head, HeadErr, Method};
@@ -35,6 +35,7 @@ struct Lines {
 /// Writes a line.
 fn say<K: Sink>(output: &mut K, line: &[u8]) -> Result<(), Unsaid>
     ensures said { (said : List ℕ) → IsAnswered (λ bytes. Unit {0}) (Unit {0}) said (K.taken output.old) (K.taken output.new) result }
+    ensures over { OnOk result (Unit {0}) }
     ensures cause { HasSinkCause (K.faults output.old) (K.faults output.new) result }
 {
     match put_all(output, line) {
@@ -43,12 +44,29 @@ fn say<K: Sink>(output: &mut K, line: &[u8]) -> Result<(), Unsaid>
     }
 }
 
+/// Writes the line of a request, which closes the session or not.
+fn finish<K: Sink>(closes: bool, output: &mut K, line: &[u8]) -> Result<Fed, Unsaid>
+    ensures said { (said : List ℕ) → Finishes (λ bytes. Unit {0}) (Unit {0}) closes said (K.taken output.old) (K.taken output.new) result }
+    ensures over { IfOk result (IsOverIfLast (Unit {0})) }
+    ensures cause { HasSinkCause (K.faults output.old) (K.faults output.new) result }
+{
+    if let Err(unsaid) = say(output, line) {
+        return Err(unsaid);
+    }
+    if closes {
+        return Ok(Fed::Last);
+    }
+    Ok(Fed::Taken)
+}
+
 impl Replies for Lines {
     ghost Answers = { λ from to item bytes. Unit {0} };
 
     ghost Waits = { λ from to head content said. Unit {0} };
 
     ghost Fails = { λ from to. Unit {0} };
+
+    ghost IsOver = { λ at. Unit {0} };
 
     fn refused<K: Sink>(
         &mut self,
@@ -72,12 +90,12 @@ impl Replies for Lines {
         Ok(Fed::Taken)
     }
 
-    fn whole<K: Sink>(&mut self, head: Head, output: &mut K) -> Result<(), Unsaid> {
+    fn whole<K: Sink>(&mut self, head: Head, output: &mut K) -> Result<Fed, Unsaid> {
         match head.method {
-            Method::Get => say(output, b"get\n"),
-            Method::Head => say(output, b"head\n"),
-            Method::Put => say(output, b"put\n"),
-            Method::Delete => say(output, b"delete\n"),
+            Method::Get => finish(head.closes, output, b"get\n"),
+            Method::Head => finish(head.closes, output, b"head\n"),
+            Method::Put => finish(head.closes, output, b"put\n"),
+            Method::Delete => finish(head.closes, output, b"delete\n"),
         }
     }
 

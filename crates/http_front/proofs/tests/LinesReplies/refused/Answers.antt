@@ -8,4 +8,4 @@ pub returns-in-TooManyHeaders-clause-said : goal.returns-in-TooManyHeaders-claus
 returns-in-TooManyHeaders-clause-said g c = c.say-in-TooManyHeaders.ensures.said []
 
 pub returns-in_default : goal.returns-in_default
-returns-in_default g c = record { said = c.say-in_default.ensures.said []; cause = c.say-in_default.ensures.cause }
+returns-in_default g c = record { said = c.say-in_default.ensures.said []; over = c.say-in_default.ensures.over; cause = c.say-in_default.ensures.cause }
