@@ -1,5 +1,5 @@
 -- Bytes that came, and bytes that were taken.
-use Rattle.std.proofs.Common.{◌≡◌, ℕ, ◌≤◌, Bool, true, false, Result, Ok, Err, is_err, OnOk, List, [], ◌++◌, sym, ap, ◌∙◌, subst, arith, append_assoc, append-nil, length-append}
+use Rattle.std.proofs.Common.{◌≡◌, ℕ, ◌≤◌, Bool, true, List, [], ◌++◌, sym, ap, ◌∙◌, subst, arith, append_assoc, append-nil, length-append}
 use Rattle.std.specs.declared.option.Option.{Option}
 use Rattle.std.specs.Io.KnownBytes.{Consumes, IsAtEnd}
 use Rattle.std.proofs.KnownBytes.{Consumes-nil, Consumes-trans}
@@ -57,11 +57,3 @@ halted a b c old mid taken r s t halts.ReadFault Stands m le (u, rose) y =
 halted a b c old mid taken r s t halts.InputTooLong Stands m le (over, some, u, full) y =
     (m.came, over, some, Consumes-trans a b c m.came over m.consumed u, omega (arith, m.count, full), y)
 halted a b c old mid taken r s t halts.NoMemory Stands m le (x, u) y = (m.came ++ x, Consumes-trans a b c m.came x m.consumed u)
-
--- memory was refused between two reads
-pub no_memory : (a b : Option (List ℕ)) (old mid : Pending) (taken : List ℕ) (r t : ℕ) (Stands : List ℕ → Type 0) → Moves a b old mid taken → Halts Stands a b old.total r t halts.NoMemory
-no_memory a b old mid taken r t Stands m = (m.came, m.consumed)
-
-pub ok_of : {E : Type 0} (P : Type 0) (r : Result (Unit {0}) E) → is_err r ≡ false → OnOk r P → P
-ok_of P (Ok x) e h = h
-ok_of P (Err x) e h = cc

@@ -13,6 +13,8 @@ mod Heads
 mod Comes
 mod Contents
 mod Seeks
+mod Chained
+mod Handed
 mod Runs
 mod Ends
 mod Opened

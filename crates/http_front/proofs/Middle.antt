@@ -1,9 +1,8 @@
 -- A request between its head and its content.
-use Rattle.std.proofs.Common.{◌≡◌, ℕ, ◌+◌, ◌<◌, ◌≤◌, Bool, true, false, List, [], ◌∷◌, ◌++◌, length, take, Result, Ok, Err, refl, sym, ap, ◌∙◌, subst, arith, append_assoc, append-nil, length-append}
-use Rattle.std.proofs.lemmas.List.{take-append-le}
+use Rattle.std.proofs.Common.{◌≡◌, inl, inr, ℕ, ◌+◌, ◌<◌, ◌≤◌, Bool, true, false, List, [], ◌∷◌, ◌++◌, length, Result, Ok, Err, OnOk, refl, sym, ap, ◌∙◌, subst, arith, append_assoc, append-nil, length-append}
 use Rattle.std.specs.declared.option.Option.{Option}
 use Rattle.std.specs.Io.KnownBytes.{Consumes, Appends}
-use Rattle.std.proofs.KnownBytes.{Consumes-trans, Appends-trans}
+use Rattle.std.proofs.KnownBytes.{Consumes-trans, Appends-nil, Appends-trans}
 use Rattle.http_heads.specs.declared.head.Head.{Head}
 use Rattle.http_heads.specs.declared.body_err.BodyErr.{BodyErr}
 use Rattle.http_heads.specs.Cut.{drop_blank}
@@ -12,142 +11,44 @@ use Rattle.http_chunks.specs.Reading as readings
 use Rattle.http_requests.specs.Bodies.{HoldsBody}
 use Rattle.http_requests.specs.Heads.{Accepts}
 use Rattle.http_requests.specs.Requests as stream
-use Rattle.http_requests.specs.Requests.{Item, Asks, AreRequests, stop_of}
-use Rattle.http_front.specs.Asking.{IsOf}
+use Rattle.http_requests.specs.Requests.{Asks, AreRequests, stop_of}
 use Rattle.http_front.specs.Buffers.{Pending, input_limit}
-use Rattle.http_front.specs.Fills.{Halts, IsWithin}
-use Rattle.http_front.specs.Reading.{TookHead, MetEnd, MetStop, IsCut}
-use Rattle.http_front.specs.Replying.{Says, IsSilent, After, IsAnswered, BeginsWith, Begins}
-use Rattle.http_front.specs.Sessions.{HasSaidPart, HasDenied, EndsAs, halt_end, unsaid_end, result_end}
+use Rattle.http_front.specs.Chains.{Answering}
+use Rattle.http_front.specs.Fills.{IsWithin}
+use Rattle.http_front.specs.Handing.{HandsOver, IsDenied}
+use Rattle.http_front.specs.Reading.{Moves, TookHead, MetEnd, MetStop, IsCut, ContentHalts}
+use Rattle.http_front.specs.Replying.{IsAnswered, AnswersAll, Begins, unread}
+use Rattle.http_front.specs.Sessions.{HasDenied, HasClosed, EndsAs, halt_end, unsaid_end, result_end}
 use Rattle.http_front.specs.declared.begun.Begun.TheVariants.{Wanted, Answered, Last}
 use Rattle.http_front.specs.declared.end.End.TheVariants as ends
 use Rattle.http_front.specs.declared.halt.Halt.{Halt}
 use Rattle.http_front.specs.declared.halt.Halt.TheVariants as halts
 use Rattle.http_front.specs.declared.replies.Unsaid.{Unsaid}
-use Rattle.http_front.specs.declared.replies.Unsaid.TheVariants as unsaid
+use Rattle.http_front.proofs.Chained.{Chain-one, Chain-append, joined, answered_as}
 use Rattle.http_front.proofs.Runs.{Runs, Took, took_both, all_read, stands_last, stands_alone, answered}
-use Rattle.http_front.proofs.Ends.{within_all, front_of, all_said, first_said, part_said, nothing_said, part_ends, all_closed}
-use Rattle.http_front.proofs.Opened.{Opened, opened, empty_content, put_if_cut}
+use Rattle.http_front.proofs.Comes.{unmoved}
+use Rattle.http_front.proofs.Ends.{within_all, all_said, first_said, of_said, unsaid_ends, all_closed, all_stopped, result_ends}
+use Rattle.http_front.proofs.Opened.{opened, empty_content, put_if_cut, IsOf-unread}
 
--- the head was taken, its content is wanted, and what is said before that was written
-pub record Wants (Waits : Says → Type 0) (says : Says) (head : Head) (u v : Option (List ℕ)) : Type 0 where
-  pub front : List ℕ
-  pub next : Says
-  pub waits : Waits next
-  pub begins : BeginsWith says head front next
-  pub wrote : Appends u v front
+-- what waits for its content
+abbrev pub Waiting : Type 0 → Type 1
+Waiting A = A → A → Head → List ℕ → List ℕ → Type 0
 
-pub wanted : (Next Waits : Says → Type 0) (says : Says) (head : Head) (u v : Option (List ℕ)) → Begins says Next Waits head u v (Ok Wanted) → Wants Waits says head u v
-wanted Next Waits says head u v (front, next, waits, begins, wrote) = record { front = front; next = next; waits = waits; begins = begins; wrote = wrote }
+-- The head was taken, its content is wanted, and what is said before that was written. Then so much of the content was handed over.
+pub record Wants {A : Type 0} (Waits : Waiting A) (x y : A) (head : Head) (u v : Option (List ℕ)) (content : List ℕ) : Type 0 where
+  pub said : List ℕ
+  pub waits : Waits x y head content said
+  pub wrote : Appends u v said
 
--- what is said to a request by its two parts
-both_said : (Waits Next : Says → Type 0) (says : Says) (head : Head) (item : Item) (u v w : Option (List ℕ)) → Wants Waits says head u v → IsOf head item → (n : Wants Waits says head u v)
-    → IsAnswered n.next Next item v w (Ok tt) → IsAnswered says Next item u w (Ok tt)
-both_said Waits Next says head item u v w k is n (answer, next, good, tells, wrote) = (
-  n.front ++ answer,
-  next,
-  good,
-  λ items. n.begins item items is ∙ ap (λ (l : List ℕ). n.front ++ l) (tells items) ∙ sym (append_assoc n.front answer (next items)),
-  Appends-trans u v w n.front answer n.wrote wrote,
-)
+pub wanted : {A : Type 0} (Answers : Answering A) (Waits : Waiting A) (Fails : Type 0) (x y : A) (head : Head) (u v : Option (List ℕ)) → Begins (Answers x y) (Waits x y head []) Fails head u v (Ok Wanted) → Wants Waits x y head u v []
+wanted Answers Waits Fails x y head u v (said, waits, wrote) = record { said = said; waits = waits; wrote = wrote }
 
--- a front of it
-part_of : (Waits Next : Says → Type 0) (says : Says) (head : Head) (item : Item) (u v w : Option (List ℕ)) (why : Unsaid) → IsOf head item → (n : Wants Waits says head u v)
-    → IsAnswered n.next Next item v w (Err why) → (count : ℕ) × Appends u w (take count (says (item ∷ [])))
-part_of Waits Next says head item u v w unsaid.WriteFault is n (answer, next, count, tells, le, wrote) =
-    let e : take (length n.front + count) (says (item ∷ [])) ≡ n.front ++ take count answer
-    = ap (take (length n.front + count)) (n.begins item [] is) ∙ front_of n.front (n.next (item ∷ [])) count
-    ∙ ap (λ (l : List ℕ). n.front ++ l) (ap (take count) (tells []) ∙ take-append-le count answer (next []) le) in
-    (length n.front + count, subst (Appends u w) (sym e) (Appends-trans u v w n.front (take count answer) n.wrote wrote))
-part_of Waits Next says head item u v w unsaid.NoMemory is n wrote =
-    let e : take (length n.front + 0) (says (item ∷ [])) ≡ n.front ++ []
-    = ap (take (length n.front + 0)) (n.begins item [] is) ∙ front_of n.front (n.next (item ∷ [])) 0 in
-    (length n.front + 0, subst (Appends u w) (sym e) (Appends-trans u v w n.front [] n.wrote wrote))
-
--- what was written before the content is a front of what is said to the request of the head alone
-front_part : (Waits : Says → Type 0) (says : Says) (head : Head) (item : Item) (u v : Option (List ℕ)) → IsOf head item → (n : Wants Waits says head u v)
-    → (count : ℕ) × Appends u v (take count (says (item ∷ [])))
-front_part Waits says head item u v is n =
-    let e : take (length n.front + 0) (says (item ∷ [])) ≡ n.front ++ []
-    = ap (take (length n.front + 0)) (n.begins item [] is) ∙ front_of n.front (n.next (item ∷ [])) 0 in
-    (length n.front + 0, subst (Appends u v) (sym e) (subst (Appends u v) (sym (append-nil n.front)) n.wrote))
-
--- a part of what is said to a request of which the head alone counts
-pub head_part : (Old : Says → Type 0) (says : Says) (a b c d t u v : Option (List ℕ)) (old mid : Pending) (head : Head) (came : List ℕ) (count : ℕ)
-    → (r : Runs Old says a b t u old) → (k : TookHead b c old mid head) → Consumes c d came → (o : Opened head k.taken) → Appends u v (take count (r.next (o.item ∷ []))) → HasSaidPart says a d t v
-head_part Old says a b c d t u v old mid head came count r k x o w =
-    part_said Old says a b d t u v old (k.moves.came ++ came) k.taken (mid.waiting ++ came) (o.item ∷ []) o.inside count r (Consumes-trans b c d k.moves.came came k.moves.consumed x)
-    (sym (append_assoc old.waiting k.moves.came came) ∙ ap (λ (l : List ℕ). l ++ came) k.moves.parts ∙ append_assoc k.taken mid.waiting came) o.holds w
-
--- ---- the head was answered
-
--- it wasn't
-pub begin_unsaid : (Old Next Waits : Says → Type 0) (says : Says) (a b c t u v : Option (List ℕ)) (e : Bool) (old mid : Pending) (head : Head) (why : Unsaid)
-    → (r : Runs Old says a b t u old) → TookHead b c old mid head → Consumes c c [] → Begins r.next Next Waits head u v (Err why) → EndsAs (unsaid_end why) says a c e t v
-begin_unsaid Old Next Waits says a b c t u v e old mid head unsaid.WriteFault r k x (front, next, count, begins, le, wrote) =
-    let o = opened b c old mid head k in
-    head_part Old says a b c c t u v old mid head [] count r k x o (subst (Appends u v) (sym (ap (take count) (begins o.item [] o.is) ∙ take-append-le count front (next (o.item ∷ [])) le)) wrote)
-begin_unsaid Old Next Waits says a b c t u v e old mid head unsaid.NoMemory r k x wrote = nothing_said Old says a b c t u v old k.moves.came r k.moves.consumed wrote
-
--- it was, and the session goes on
-pub begin_answered : (Old Next Waits : Says → Type 0) (says : Says) (a b c t u v : Option (List ℕ)) (old mid : Pending) (head : Head)
-    → (r : Runs Old says a b t u old) → TookHead b c old mid head → Begins r.next Next Waits head u v (Ok Answered) → Runs Next says a c t v mid
-begin_answered Old Next Waits says a b c t u v old mid head r k (answer, next, good, empty, goes, answers, wrote) =
-    answered Old Next says a b c t u v old mid head [] r (took_both b c c old mid mid head [] k (empty_content c mid head.framing empty)) goes
-    (answer, next, good, λ items. answers (stream.whole head []) items refl, wrote)
-
--- it was, and the session ends
-pub begin_last : (Old Next Waits : Says → Type 0) (says : Says) (a b c t u v : Option (List ℕ)) (old mid : Pending) (head : Head)
-    → (r : Runs Old says a b t u old) → TookHead b c old mid head → Begins r.next Next Waits head u v (Ok Last) → HasDenied says a c t v
-begin_last Old Next Waits says a b c t u v old mid head r k (answer, next, silent, answers, wrote) =
-    let all : r.read ++ k.moves.came ≡ r.done ++ (k.taken ++ mid.waiting) = all_read r.done old.waiting k.moves.came r.read r.parts ∙ ap (λ (l : List ℕ). r.done ++ l) k.moves.parts in
-    record {
-      first = r.done;
-      text = k.taken;
-      rest = mid.waiting;
-      requests = r.front;
-      head = head;
-      consumed = subst (Consumes a c) all (Consumes-trans a b c r.read k.moves.came r.consumed k.moves.consumed);
-      few = subst (λ (l : List ℕ). length l ≤ input_limit) all (within_all r.read k.moves.came old.total r.count r.few (λ lt. omega (arith, k.moves.count, k.moves.within lt)));
-      holds = r.holds;
-      accepts = k.accepts;
-      wrote = λ item items is.
-          let e : says (r.front ++ item ∷ items) ≡ r.written ++ answer = r.said (item ∷ items) ∙ ap (λ (l : List ℕ). r.written ++ l) (answers item items is ∙ ap (λ (l : List ℕ). answer ++ l) (silent items) ∙ append-nil answer) in
-          subst (Appends t v) (sym e) (Appends-trans t u v r.written answer r.wrote wrote);
-    }
-
--- ---- the content came whole
-
--- the request was answered, and doesn't close
-pub whole_answered : (Old Waits Next : Says → Type 0) (says : Says) (a b c t u v w : Option (List ℕ)) (old new : Pending) (head : Head) (content : List ℕ)
-    → (r : Runs Old says a b t u old) → Took b c old new head content → (n : Wants Waits r.next head u v) → head.closes ≡ false
-    → IsAnswered n.next (After head.closes Next) (stream.whole head content) v w (Ok tt) → Runs Next says a c t w new
-whole_answered Old Waits Next says a b c t u v w old new head content r k n goes x =
-    let y : IsAnswered n.next Next (stream.whole head content) v w (Ok tt) = subst (λ (closes : Bool). IsAnswered n.next (After closes Next) (stream.whole head content) v w (Ok tt)) goes x in
-    answered Old Next says a b c t u w old new head content r k goes (both_said Waits Next r.next head (stream.whole head content) u v w n refl n y)
-
--- it closes
-pub whole_closed : (Old Waits Next : Says → Type 0) (says : Says) (a b c t u v w : Option (List ℕ)) (e : Bool) (old new : Pending) (head : Head) (content : List ℕ)
-    → (r : Runs Old says a b t u old) → Took b c old new head content → (n : Wants Waits r.next head u v) → head.closes ≡ true
-    → IsAnswered n.next (After head.closes Next) (stream.whole head content) v w (Ok tt) → EndsAs ends.Closed says a c e t w
-whole_closed Old Waits Next says a b c t u v w e old new head content r k n closes x =
-    let y : IsAnswered n.next IsSilent (stream.whole head content) v w (Ok tt) = subst (λ (b : Bool). IsAnswered n.next (After b Next) (stream.whole head content) v w (Ok tt)) closes x in
-    let z : IsAnswered r.next IsSilent (stream.whole head content) u w (Ok tt) = both_said Waits IsSilent r.next head (stream.whole head content) u v w n refl n y in
-    let same : r.next (stream.whole head content ∷ []) ≡ z.0 = z.3 [] ∙ ap (λ (l : List ℕ). z.0 ++ l) (z.2 []) ∙ append-nil z.0 in
-    let holds : AreRequests (old.waiting ++ k.came) (stream.whole head content ∷ []) false
-    = subst (λ (l : List ℕ). AreRequests l (stream.whole head content ∷ []) false) (sym k.parts) (stands_last b c old new head content k closes new.waiting) in
-    all_closed Old says a b c t u w old k.came (stream.whole head content) r k.consumed (λ lt. omega (arith, k.count, k.within r.few)) holds (subst (Appends u w) (sym same) z.4) closes
-
--- it wasn't answered
-pub whole_unsaid : (Old Waits Next : Says → Type 0) (says : Says) (a b c t u v w : Option (List ℕ)) (e : Bool) (old new : Pending) (head : Head) (content : List ℕ) (why : Unsaid)
-    → (r : Runs Old says a b t u old) → Took b c old new head content → (n : Wants Waits r.next head u v)
-    → IsAnswered n.next (After head.closes Next) (stream.whole head content) v w (Err why) → EndsAs (unsaid_end why) says a c e t w
-whole_unsaid Old Waits Next says a b c t u v w e old new head content why r k n x =
-    let y = part_of Waits (After head.closes Next) r.next head (stream.whole head content) u v w why refl n x in
-    part_ends says a c t w e why
-    (part_said Old says a b c t u w old k.came k.text new.waiting (stream.whole head content ∷ []) false y.0 r k.consumed k.parts (stands_alone b c old new head content k) y.1)
-
--- ---- the content is refused
+pub handed : {A : Type 0} (Waits : Waiting A) (x y z : A) (head : Head) (u v w : Option (List ℕ)) (content : List ℕ) → Wants Waits x y head u v [] → HandsOver Waits y z head v w content → Wants Waits x z head u w content
+handed Waits x y z head u v w content n h = record {
+  said = n.said;
+  waits = (h x n.said n.waits).0;
+  wrote = subst (Appends u w) (append-nil n.said) (Appends-trans u v w n.said [] n.wrote (h x n.said n.waits).1);
+}
 
 within_both : (x y : List ℕ) (a b : ℕ) → b ≡ a + length x → (0 < length x → b ≤ input_limit) → IsWithin b y → IsWithin a (x ++ y)
 within_both [] y a b e f g lt = omega (arith, e, g lt)
@@ -166,28 +67,121 @@ asks b c old mid head came reading k h = record {
   holds = h;
 }
 
-pub stopped : (Old Waits : Says → Type 0) (says : Says) (a b c d t u v w : Option (List ℕ)) (e : Bool) (old mid : Pending) (head : Head) (why : BodyErr) (result : Result (Unit {0}) Unsaid)
-    → (r : Runs Old says a b t u old) → TookHead b c old mid head → (n : Wants Waits r.next head u v) → MetStop c d mid head.framing why
-    → ((content : List ℕ) → IsAnswered n.next IsSilent (stream.stopped head content why) v w result) → EndsAs (result_end result) says a d e t w
-stopped Old Waits says a b c d t u v w e old mid head why result r k n (came, content, x, i, f) said = by_result result (said content)
+-- ---- the head was answered
+
+-- in part
+pub begin_unsaid : {A : Type 0} (Answers : Answering A) (Waits : Waiting A) (Fails : A → A → Type 0) (is_over : A → Bool) (x y z : A) (a b c t u v : Option (List ℕ)) (e : Bool) (old mid : Pending) (head : Head) (why : Unsaid)
+    → Runs Answers is_over x y a b t u old → TookHead b c old mid head → Begins (Answers y z) (Waits y z head []) (Fails y z) head u v (Err why) → EndsAs Answers Fails is_over (unsaid_end why) x z a c e t v
+begin_unsaid {A} Answers Waits Fails is_over x y z a b c t u v e old mid head why r k p =
+    let o = opened b c old mid head k in
+    unsaid_ends Answers Fails is_over x y z a b c t u v e old k.moves.came k.taken mid.waiting (unread head) o.0 why r k.moves.consumed k.moves.parts o.1
+    (joined (Answers y z (unread head)) (Fails y z) ((q : A) × Fails q z) [] u u v (Err why) (λ f. (y, f)) (Appends-nil u) p)
+
+-- whole, and the session goes on
+pub begin_answered : {A : Type 0} (Answers : Answering A) (Waits : Waiting A) (Fails : Type 0) (is_over : A → Bool) (x y z : A) (a b c t u v : Option (List ℕ)) (old mid : Pending) (head : Head)
+    → Runs Answers is_over x y a b t u old → TookHead b c old mid head → Begins (Answers y z) (Waits y z head []) Fails head u v (Ok Answered) → is_over z ≡ false → Runs Answers is_over x z a c t v mid
+begin_answered Answers Waits Fails is_over x y z a b c t u v old mid head r k (answer, answers, empty, goes, wrote) not =
+    answered Answers is_over x y z a b c t u v old mid head [] answer r (took_both b c c old mid mid head [] k (empty_content c mid head.framing empty)) goes (answers (stream.whole head []) refl) not wrote
+
+-- whole, and the session ends, whatever stands behind the head
+pub denied : {A : Type 0} (Answers : Answering A) (is_over : A → Bool) (x y z : A) (a b c d t u v : Option (List ℕ)) (old mid new : Pending) (head : Head) (answer content : List ℕ)
+    → Runs Answers is_over x y a b t u old → TookHead b c old mid head → Moves c d mid new content → AnswersAll (Answers y z) head answer → Appends u v answer → HasDenied Answers is_over x z a d t v
+denied Answers is_over x y z a b c d t u v old mid new head answer content r k m answers wrote =
+    let came : List ℕ = k.moves.came ++ m.came in
+    let all : r.read ++ came ≡ r.done ++ (k.taken ++ (mid.waiting ++ m.came))
+    = all_read r.done old.waiting came r.read r.parts ∙ ap (λ (l : List ℕ). r.done ++ l) (behind_head b c old mid head m.came k) in
+    record {
+      first = r.done;
+      text = k.taken;
+      rest = mid.waiting ++ m.came;
+      requests = r.front;
+      head = head;
+      written = r.written ++ answer;
+      consumed = subst (Consumes a d) all (Consumes-trans a b d r.read came r.consumed (Consumes-trans b c d k.moves.came m.came k.moves.consumed m.consumed));
+      few = subst (λ (l : List ℕ). length l ≤ input_limit) all
+          (within_all r.read came old.total r.count r.few (within_both k.moves.came m.came old.total mid.total k.moves.count k.moves.within (λ lt. omega (arith, m.count, m.within lt))));
+      holds = r.holds;
+      accepts = k.accepts;
+      made = λ item is. Chain-append Answers is_over x y z r.front (item ∷ []) r.written answer r.not_over r.made (Chain-one Answers is_over y z item answer (answers item is));
+      wrote = Appends-trans t u v r.written answer r.wrote wrote;
+    }
+
+pub begin_last : {A : Type 0} (Answers : Answering A) (Waits : Waiting A) (Fails : Type 0) (is_over : A → Bool) (x y z : A) (a b c t u v : Option (List ℕ)) (old mid : Pending) (head : Head)
+    → Runs Answers is_over x y a b t u old → TookHead b c old mid head → Begins (Answers y z) (Waits y z head []) Fails head u v (Ok Last) → HasDenied Answers is_over x z a c t v
+begin_last Answers Waits Fails is_over x y z a b c t u v old mid head r k (answer, answers, wrote) =
+    denied Answers is_over x y z a b c c t u v old mid mid head answer [] r k (unmoved c mid) answers wrote
+
+-- ---- the request was answered while its content came
+
+-- what was said before belongs to the answer
+pub denied_whole : {A : Type 0} (Answers : Answering A) (Waits : Waiting A) (Fails : A → A → Type 0) (is_over : A → Bool) (x y p z : A) (a b c d t u v w : Option (List ℕ)) (old mid new : Pending) (head : Head) (content : List ℕ)
+    → Runs Answers is_over x y a b t u old → TookHead b c old mid head → Wants Waits y p head u v [] → Moves c d mid new content → IsDenied Answers Waits Fails p z head v w (Ok tt) → HasDenied Answers is_over x z a d t w
+denied_whole Answers Waits Fails is_over x y p z a b c d t u v w old mid new head content r k n m f =
+    let g = f y n.said n.waits in
+    denied Answers is_over x y z a b c d t u w old mid new head (n.said ++ g.0) content r k m g.1 (Appends-trans u v w n.said g.0 n.wrote g.2)
+
+pub denied_part : {A : Type 0} (Answers : Answering A) (Waits : Waiting A) (Fails : A → A → Type 0) (is_over : A → Bool) (x y p z : A) (a b c d t u v w : Option (List ℕ)) (e : Bool) (old mid new : Pending) (head : Head) (content : List ℕ) (why : Unsaid)
+    → Runs Answers is_over x y a b t u old → TookHead b c old mid head → Wants Waits y p head u v [] → Moves c d mid new content → IsDenied Answers Waits Fails p z head v w (Err why) → EndsAs Answers Fails is_over (unsaid_end why) x z a d e t w
+denied_part {A} Answers Waits Fails is_over x y p z a b c d t u v w e old mid new head content why r k n m f =
+    let o = opened b c old mid head k in
+    let F : Type 0 = (q : A) × Fails q z in
+    unsaid_ends Answers Fails is_over x y z a b d t u w e old (k.moves.came ++ m.came) k.taken (mid.waiting ++ m.came) (unread head) o.0 why r
+    (Consumes-trans b c d k.moves.came m.came k.moves.consumed m.consumed) (behind_head b c old mid head m.came k) o.1
+    (joined (Answers y z (unread head)) F F n.said u v w (Err why) (λ x. x) n.wrote
+    (answered_as (AnswersAll (Answers y z) head) (Answers y z (unread head)) F n.said v w (Err why) (λ bytes g. g (unread head) (IsOf-unread head)) (f y n.said n.waits)))
+
+-- ---- the content came whole
+
+-- the request was answered, and doesn't close
+pub whole_answered : {A : Type 0} (Answers : Answering A) (Waits : Waiting A) (Fails : Type 0) (is_over : A → Bool) (x y p z : A) (a b c t u v w : Option (List ℕ)) (old new : Pending) (head : Head) (content : List ℕ)
+    → Runs Answers is_over x y a b t u old → Took b c old new head content → (n : Wants Waits y p head u v content) → head.closes ≡ false
+    → IsAnswered (Answers y z (stream.whole head content)) Fails n.said v w (Ok tt) → is_over z ≡ false → Runs Answers is_over x z a c t w new
+whole_answered Answers Waits Fails is_over x y p z a b c t u v w old new head content r k n goes (answer, is, wrote) not =
+    answered Answers is_over x y z a b c t u w old new head content (n.said ++ answer) r k goes is not (Appends-trans u v w n.said answer n.wrote wrote)
+
+-- it closes
+whole_closed : {A : Type 0} (Answers : Answering A) (Waits : Waiting A) (is_over : A → Bool) (G : Type 0) (x y p z : A) (a b c t u v w : Option (List ℕ)) (old new : Pending) (head : Head) (content : List ℕ)
+    → Runs Answers is_over x y a b t u old → Took b c old new head content → (n : Wants Waits y p head u v content) → head.closes ≡ true
+    → IsAnswered (Answers y z (stream.whole head content)) G n.said v w (Ok tt) → is_over z ≡ true → HasClosed Answers is_over x z a c t w
+whole_closed Answers Waits is_over G x y p z a b c t u v w old new head content r k n closes (answer, is, wrote) over =
+    let holds : AreRequests (old.waiting ++ k.came) (stream.whole head content ∷ []) false
+    = subst (λ (l : List ℕ). AreRequests l (stream.whole head content ∷ []) false) (sym k.parts) (stands_last b c old new head content k closes new.waiting) in
+    all_closed Answers is_over x y z a b c t u w old k.came (n.said ++ answer) (stream.whole head content) r k.consumed (λ lt. omega (arith, k.count, k.within r.few)) holds is
+    (Appends-trans u v w n.said answer n.wrote wrote) closes over
+
+-- the answer ended the session, whether the request closes or not
+pub whole_last : {A : Type 0} (Answers : Answering A) (Waits : Waiting A) (is_over : A → Bool) (G : Type 0) (x y p z : A) (a b c t u v w : Option (List ℕ)) (old new : Pending) (head : Head) (content : List ℕ)
+    → Runs Answers is_over x y a b t u old → Took b c old new head content → (n : Wants Waits y p head u v content)
+    → IsAnswered (Answers y z (stream.whole head content)) G n.said v w (Ok tt) → is_over z ≡ true → HasClosed Answers is_over x z a c t w
+whole_last Answers Waits is_over G x y p z a b c t u v w old new head content r k n h over = by_close head.closes refl
   where
-    holds : AreRequests (old.waiting ++ (k.moves.came ++ came)) (stream.stopped head content why ∷ []) false
-    holds = (asks b c old mid head came (stop_of content why) k (subst (λ (l : List ℕ). HoldsBody head.framing l (stop_of content why)) (append-nil (mid.waiting ++ came)) (f [])), refl, refl)
+    by_close : (closes : Bool) → head.closes ≡ closes → HasClosed Answers is_over x z a c t w
+    by_close true e = whole_closed Answers Waits is_over G x y p z a b c t u v w old new head content r k n e h over
+    by_close false e = (
+      inr (inr (all_stopped Answers is_over x y z a b c t u w old new head content (n.said ++ h.0) r k e h.1 (Appends-trans u v w n.said h.0 n.wrote h.2))),
+      over,
+    )
 
-    took : Consumes b d (k.moves.came ++ came)
-    took = Consumes-trans b c d k.moves.came came k.moves.consumed x
+-- it was answered in part
+pub whole_unsaid : {A : Type 0} (Answers : Answering A) (Waits : Waiting A) (Fails : A → A → Type 0) (is_over : A → Bool) (x y p z : A) (a b c t u v w : Option (List ℕ)) (e : Bool) (old new : Pending) (head : Head) (content : List ℕ) (why : Unsaid)
+    → Runs Answers is_over x y a b t u old → Took b c old new head content → (n : Wants Waits y p head u v content)
+    → IsAnswered (Answers y z (stream.whole head content)) (Fails p z) n.said v w (Err why) → EndsAs Answers Fails is_over (unsaid_end why) x z a c e t w
+whole_unsaid {A} Answers Waits Fails is_over x y p z a b c t u v w e old new head content why r k n h =
+    unsaid_ends Answers Fails is_over x y z a b c t u w e old k.came k.text new.waiting (stream.whole head content) false why r k.consumed k.parts (stands_alone b c old new head content k)
+    (joined (Answers y z (stream.whole head content)) (Fails p z) ((q : A) × Fails q z) n.said u v w (Err why) (λ f. (p, f)) n.wrote h)
 
-    by_result : (result : Result (Unit {0}) Unsaid) → IsAnswered n.next IsSilent (stream.stopped head content why) v w result → EndsAs (result_end result) says a d e t w
-    by_result (Ok x') y =
-        let z : IsAnswered r.next IsSilent (stream.stopped head content why) u w (Ok tt) = both_said Waits IsSilent r.next head (stream.stopped head content why) u v w n refl n y in
-        let same : r.next (stream.stopped head content why ∷ []) ≡ z.0 = z.3 [] ∙ ap (λ (l : List ℕ). z.0 ++ l) (z.2 []) ∙ append-nil z.0 in
-        all_closed Old says a b d t u w old (k.moves.came ++ came) (stream.stopped head content why) r took (within_both k.moves.came came old.total mid.total k.moves.count k.moves.within i) holds
-        (subst (Appends u w) (sym same) z.4) refl
-    by_result (Err unsaid') y =
-        let z = part_of Waits IsSilent r.next head (stream.stopped head content why) u v w unsaid' refl n y in
-        part_ends says a d t w e unsaid'
-        (part_said Old says a b d t u w old (k.moves.came ++ came) (old.waiting ++ (k.moves.came ++ came)) [] (stream.stopped head content why ∷ []) false z.0 r took
-        (sym (append-nil (old.waiting ++ (k.moves.came ++ came)))) holds z.1)
+-- ---- the content is refused
+
+pub stopped : {A : Type 0} (Answers : Answering A) (Waits : Waiting A) (Fails : A → A → Type 0) (is_over : A → Bool) (x y p q z : A) (a b c d t u v v' w : Option (List ℕ)) (e : Bool) (old mid : Pending) (head : Head) (why : BodyErr)
+    (result : Result (Unit {0}) Unsaid) → Runs Answers is_over x y a b t u old → TookHead b c old mid head → Wants Waits y p head u v [] → MetStop (HandsOver Waits p q head v v') c d mid head.framing why
+    → ((start : A) (content said : List ℕ) → Waits start q head content said → IsAnswered (Answers start z (stream.stopped head content why)) (Fails q z) said v' w result)
+    → OnOk result (is_over z ≡ true) → EndsAs Answers Fails is_over (result_end result) x z a d e t w
+stopped {A} Answers Waits Fails is_over x y p q z a b c d t u v v' w e old mid head why result r k n (came, content, m, i, f, h) said over =
+    let body : HoldsBody head.framing (mid.waiting ++ came) (stop_of content why) = subst (λ (l : List ℕ). HoldsBody head.framing l (stop_of content why)) (append-nil (mid.waiting ++ came)) (f []) in
+    let o : Wants Waits y q head u v' content = handed Waits y p q head u v v' content n h in
+    result_ends Answers Fails is_over x y z a b d t u w e old (k.moves.came ++ came) (stream.stopped head content why) result r (Consumes-trans b c d k.moves.came came k.moves.consumed m)
+    (within_both k.moves.came came old.total mid.total k.moves.count k.moves.within i) (asks b c old mid head came (stop_of content why) k body, refl, refl) refl
+    (joined (Answers y z (stream.stopped head content why)) (Fails q z) ((s : A) × Fails s z) o.said u v' w result (λ g. (q, g)) o.wrote (said y content o.said o.waits)) over
 
 -- ---- the content is cut
 
@@ -196,41 +190,46 @@ cut_holds : (b c : Option (List ℕ)) (old mid : Pending) (head : Head) (came co
     → AreRequests (old.waiting ++ (k.moves.came ++ came)) (stream.cut head content ∷ []) true
 cut_holds b c old mid head came content k h = (asks b c old mid head came (readings.cut content) k h, refl, refl)
 
--- nothing more is said
-cut_wrote : (Waits : Says → Type 0) (says : Says) (head : Head) (u v : Option (List ℕ)) (content : List ℕ) → (n : Wants Waits says head u v) → n.next (stream.cut head content ∷ []) ≡ []
-    → Appends u v (says (stream.cut head content ∷ []))
-cut_wrote Waits says head u v content n silent =
-    subst (Appends u v) (sym (n.begins (stream.cut head content) [] refl ∙ ap (λ (l : List ℕ). n.front ++ l) silent ∙ append-nil n.front)) n.wrote
+-- what was said is the whole answer
+abbrev pub Cuts : {A : Type 0} → Answering A → Waiting A → A → A → Head → Type 0
+Cuts {A} Answers Waits q z head = (start : A) (content said : List ℕ) → Waits start q head content said → is_put head.method ≡ true → Answers start z (stream.cut head content) said
 
-pub cut_ended : (Old Waits : Says → Type 0) (says : Says) (a b c d t u v : Option (List ℕ)) (e : Bool) (old mid : Pending) (head : Head)
-    → (r : Runs Old says a b t u old) → TookHead b c old mid head → (n : Wants Waits r.next head u v)
-    → (is_put head.method ≡ true → (content : List ℕ) → n.next (stream.cut head content ∷ []) ≡ [])
-    → MetEnd c d e mid.total (IsCut mid head.framing) → EndsAs ends.Cut says a d e t v
-cut_ended Old Waits says a b c d t u v e old mid head r k n silent m =
+pub cut_ended : {A : Type 0} (Answers : Answering A) (Waits : Waiting A) (Fails : A → A → Type 0) (is_over : A → Bool) (x y p q z : A) (a b c d t u v w : Option (List ℕ)) (e : Bool) (old mid : Pending) (head : Head)
+    → Runs Answers is_over x y a b t u old → TookHead b c old mid head → Wants Waits y p head u v [] → Cuts Answers Waits q z head
+    → MetEnd c d e mid.total (IsCut (HandsOver Waits p q head v w) mid head.framing) → EndsAs Answers Fails is_over ends.Cut x z a d e t w
+cut_ended Answers Waits Fails is_over x y p q z a b c d t u v w e old mid head r k n f m =
     let content = m.stands.0 in
-    let put = put_if_cut head (mid.waiting ++ m.came) content k.fits m.stands.1 in (
-      all_said Old says a b d t u v old (k.moves.came ++ m.came) (stream.cut head content ∷ []) true r (Consumes-trans b c d k.moves.came m.came k.moves.consumed m.consumed)
-          (within_both k.moves.came m.came old.total mid.total k.moves.count k.moves.within m.within) (cut_holds b c old mid head m.came content k m.stands.1) (cut_wrote Waits r.next head u v content n (silent put content)),
+    let put = put_if_cut head (mid.waiting ++ m.came) content k.fits m.stands.1 in
+    let o : Wants Waits y q head u w content = handed Waits y p q head u v w content n m.stands.2 in (
+      all_said Answers is_over x y z a b d t u w old (k.moves.came ++ m.came) o.said (stream.cut head content ∷ []) true r (Consumes-trans b c d k.moves.came m.came k.moves.consumed m.consumed)
+          (within_both k.moves.came m.came old.total mid.total k.moves.count k.moves.within m.within) (cut_holds b c old mid head m.came content k m.stands.1)
+          (Chain-one Answers is_over y z (stream.cut head content) o.said (f y content o.said o.waits put)) o.wrote,
       m.at_end,
       m.told,
     )
 
-pub cut_halted : (Old Waits : Says → Type 0) (says : Says) (a b c d t u v : Option (List ℕ)) (e : Bool) (old mid : Pending) (head : Head) (reads reads' : ℕ) (h : Halt)
-    → (r : Runs Old says a b t u old) → TookHead b c old mid head → (n : Wants Waits r.next head u v)
-    → (is_put head.method ≡ true → (content : List ℕ) → n.next (stream.cut head content ∷ []) ≡ [])
-    → Halts (IsCut mid head.framing) c d mid.total reads reads' h → EndsAs (halt_end h) says a d e t v
-cut_halted Old Waits says a b c d t u v e old mid head reads reads' halts.ReadFault r k n silent (came, x, (content, s), i, rose) =
-    let put = put_if_cut head (mid.waiting ++ came) content k.fits s in (
-      true,
-      all_said Old says a b d t u v old (k.moves.came ++ came) (stream.cut head content ∷ []) true r (Consumes-trans b c d k.moves.came came k.moves.consumed x)
-          (within_both k.moves.came came old.total mid.total k.moves.count k.moves.within i) (cut_holds b c old mid head came content k s) (cut_wrote Waits r.next head u v content n (silent put content)),
-    )
-cut_halted Old Waits says a b c d t u v e old mid head reads reads' halts.InputTooLong r k n silent (came, over, some, x, full, (content, s)) =
+pub cut_halted : {A : Type 0} (Answers : Answering A) (Waits : Waiting A) (Fails : A → A → Type 0) (is_over : A → Bool) (x y p q z : A) (a b c d t u v w : Option (List ℕ)) (e : Bool) (old mid : Pending) (head : Head) (reads reads' : ℕ) (h : Halt)
+    → Runs Answers is_over x y a b t u old → TookHead b c old mid head → Wants Waits y p head u v [] → Cuts Answers Waits q z head
+    → ContentHalts (IsCut (HandsOver Waits p q head v w) mid head.framing) c d mid.total reads reads' h → EndsAs Answers Fails is_over (halt_end h) x z a d e t w
+cut_halted Answers Waits Fails is_over x y p q z a b c d t u v w e old mid head reads reads' halts.ReadFault r k n f (came, m, (content, s, hands), i, rose) =
     let put = put_if_cut head (mid.waiting ++ came) content k.fits s in
-    first_said Old says a b d t u v old (k.moves.came ++ came) over (stream.cut head content ∷ []) true r
-    (subst (Consumes b d) (sym (append_assoc k.moves.came came over)) (Consumes-trans b c d k.moves.came (came ++ over) k.moves.consumed x)) some
-    (omega (arith, length-append k.moves.came came, k.moves.count, full)) (cut_holds b c old mid head came content k s) (cut_wrote Waits r.next head u v content n (silent put content))
-cut_halted Old Waits says a b c d t u v e old mid head reads reads' halts.NoMemory r k n silent (came, x) =
-    let o = opened b c old mid head k in
-    let y = front_part Waits r.next head o.item u v o.is n in
-    head_part Old says a b c d t u v old mid head came y.0 r k x o y.1
+    let o : Wants Waits y q head u w content = handed Waits y p q head u v w content n hands in (
+      true,
+      all_said Answers is_over x y z a b d t u w old (k.moves.came ++ came) o.said (stream.cut head content ∷ []) true r (Consumes-trans b c d k.moves.came came k.moves.consumed m)
+          (within_both k.moves.came came old.total mid.total k.moves.count k.moves.within i) (cut_holds b c old mid head came content k s)
+          (Chain-one Answers is_over y z (stream.cut head content) o.said (f y content o.said o.waits put)) o.wrote,
+    )
+cut_halted Answers Waits Fails is_over x y p q z a b c d t u v w e old mid head reads reads' halts.InputTooLong r k n f (came, over, some, m, full, (content, s, hands)) =
+    let put = put_if_cut head (mid.waiting ++ came) content k.fits s in
+    let o : Wants Waits y q head u w content = handed Waits y p q head u v w content n hands in
+    first_said Answers is_over x y z a b d t u w old (k.moves.came ++ came) over o.said (stream.cut head content ∷ []) true r
+    (subst (Consumes b d) (sym (append_assoc k.moves.came came over)) (Consumes-trans b c d k.moves.came (came ++ over) k.moves.consumed m)) some
+    (omega (arith, length-append k.moves.came came, k.moves.count, full)) (cut_holds b c old mid head came content k s)
+    (Chain-one Answers is_over y z (stream.cut head content) o.said (f y content o.said o.waits put)) o.wrote
+cut_halted Answers Waits Fails is_over x y p q z a b c d t u v w e old mid head reads reads' halts.NoMemory r k n f (came, over, m, (content, s, hands), i) =
+    let put = put_if_cut head (mid.waiting ++ came) content k.fits s in
+    let o : Wants Waits y q head u w content = handed Waits y p q head u v w content n hands in
+    of_said Answers is_over x y z a b d t u w old (k.moves.came ++ came) over o.said (stream.cut head content ∷ []) true r
+    (subst (Consumes b d) (sym (append_assoc k.moves.came came over)) (Consumes-trans b c d k.moves.came (came ++ over) k.moves.consumed m))
+    (within_both k.moves.came came old.total mid.total k.moves.count k.moves.within i) (cut_holds b c old mid head came content k s)
+    (Chain-one Answers is_over y z (stream.cut head content) o.said (f y content o.said o.waits put)) o.wrote

@@ -1,9 +1,9 @@
 -- A head that was taken, and nothing of its content.
-use Rattle.std.proofs.Common.{◌≡◌, ℕ, zero, suc, ◌==◌, Bool, true, false, List, [], ◌∷◌, ◌++◌, length, None, IsTrue, refl, sym, ap, subst, arith, inl, inr, append-nil, length-append}
+use Rattle.std.proofs.Common.{◌≡◌, ℕ, zero, suc, ◌==◌, Bool, true, false, if◌then◌else◌, List, [], ◌∷◌, ◌++◌, length, None, IsTrue, refl, sym, ap, ◌∙◌, subst, arith, inl, inr, append-nil, length-append}
 use Rattle.std.specs.declared.option.Option.{Option}
 use Rattle.std.specs.Char.{is_ascii_hexdigit}
 use Rattle.std.proofs.lemmas.List.Elements.{All-cons, All-nil}
-use Rattle.std.proofs.lemmas.Bool.{eqb-true}
+use Rattle.std.proofs.lemmas.Bool.{eqb-true, ne_eqb}
 use Rattle.httparse.specs.Grammar.{is_ows, ChunkLine, HasNoChunkLine, MayBecomeChunkLine, print_chunk_line, print_extension, print_end, crlf}
 use Rattle.http_heads.specs.declared.body_err.BodyErr.{BodyErr}
 use Rattle.http_heads.specs.declared.body_err.BodyErr.TheVariants.{BadChunk, BodyTooLarge}
@@ -23,6 +23,7 @@ use Rattle.http_requests.specs.Requests as stream
 use Rattle.http_requests.specs.Requests.{Item, AreRequests, stop_of}
 use Rattle.http_front.specs.Asking.{is_empty, IsOf, OnlyPutHasContent}
 use Rattle.http_front.specs.Buffers.{Pending}
+use Rattle.http_front.specs.Replying.{unread}
 use Rattle.http_front.specs.Reading.{TookHead, TookContent}
 use Rattle.http_front.proofs.Comes.{unmoved}
 
@@ -55,31 +56,46 @@ open_line = record { short = omega arith; none = no_line; open_end = may_begin }
 pub no_chunk : Holds [] (readings.cut [])
 no_chunk = (Line, [], record { front = []; parts = refl; reached = none_yet }, open_line)
 
--- the one request in the bytes of a head
-pub record Opened (head : Head) (text : List ℕ) : Type 0 where
-  pub item : Item
-  pub inside : Bool
-  pub is : IsOf head item
-  pub holds : AreRequests text (item ∷ []) inside
+-- the one request in the bytes of a head, of which nothing came behind it
+abbrev pub Opened : Head → List ℕ → Type 0
+Opened head text = (inside : Bool) × AreRequests text (unread head ∷ []) inside
 
-whole_alone : (head : Head) (text : List ℕ) → Accepts (drop_blank text) head [] → HoldsBody head.framing [] (readings.whole [] []) → Opened head text
-whole_alone head text accepts holds = record { item = stream.whole head []; inside = false; is = refl; holds = by_close head.closes refl }
+whole_alone : (head : Head) (text : List ℕ) → Accepts (drop_blank text) head [] → HoldsBody head.framing [] (readings.whole [] []) → (inside : Bool) × AreRequests text (stream.whole head [] ∷ []) inside
+whole_alone head text accepts holds = (false, by_close head.closes refl)
   where
     by_close : (closes : Bool) → head.closes ≡ closes → AreRequests text (stream.whole head [] ∷ []) false
     by_close true e = ([], record { body = []; accepts = accepts; holds = holds }, inr (e, refl, refl))
     by_close false e = ([], record { body = []; accepts = accepts; holds = holds }, inl (e, refl))
 
-cut_alone : (head : Head) (text : List ℕ) → Accepts (drop_blank text) head [] → HoldsBody head.framing [] (readings.cut []) → Opened head text
-cut_alone head text accepts holds = record { item = stream.cut head []; inside = true; is = refl; holds = (record { body = []; accepts = accepts; holds = holds }, refl, refl) }
+cut_alone : (head : Head) (text : List ℕ) → Accepts (drop_blank text) head [] → HoldsBody head.framing [] (readings.cut []) → (inside : Bool) × AreRequests text (stream.cut head [] ∷ []) inside
+cut_alone head text accepts holds = (true, (record { body = []; accepts = accepts; holds = holds }, refl, refl))
+
+by_empty : (head : Head) (text : List ℕ) (empty : Bool) → is_empty head.framing ≡ empty → (inside : Bool) × AreRequests text ((if empty then stream.whole head [] else stream.cut head []) ∷ []) inside → Opened head text
+by_empty head text empty e h = subst (λ (b : Bool). (inside : Bool) × AreRequests text ((if b then stream.whole head [] else stream.cut head []) ∷ []) inside) (sym e) h
+
+suc_not_zero : (n : ℕ) → suc n ≡ 0 → ⊥
+suc_not_zero n e = omega (arith, e)
 
 alone : (head : Head) (text : List ℕ) (framing : Framing) → head.framing ≡ framing → Accepts (drop_blank text) head [] → Opened head text
-alone head text framings.None e a = whole_alone head text a (subst (λ (f : Framing). HoldsBody f [] (readings.whole [] [])) (sym e) (refl, refl))
-alone head text (framings.Length zero) e a = whole_alone head text a (subst (λ (f : Framing). HoldsBody f [] (readings.whole [] [])) (sym e) (refl, refl))
-alone head text (framings.Length (suc n)) e a = cut_alone head text a (subst (λ (f : Framing). HoldsBody f [] (readings.cut [])) (sym e) (omega arith, refl))
-alone head text framings.Chunked e a = cut_alone head text a (subst (λ (f : Framing). HoldsBody f [] (readings.cut [])) (sym e) no_chunk)
+alone head text framings.None e a =
+    by_empty head text true (ap is_empty e) (whole_alone head text a (subst (λ (f : Framing). HoldsBody f [] (readings.whole [] [])) (sym e) (refl, refl)))
+alone head text (framings.Length zero) e a =
+    by_empty head text true (ap is_empty e) (whole_alone head text a (subst (λ (f : Framing). HoldsBody f [] (readings.whole [] [])) (sym e) (refl, refl)))
+alone head text (framings.Length (suc n)) e a =
+    by_empty head text false (ap is_empty e ∙ ne_eqb (suc n) 0 (λ q. suc_not_zero n q)) (cut_alone head text a (subst (λ (f : Framing). HoldsBody f [] (readings.cut [])) (sym e) (omega arith, refl)))
+alone head text framings.Chunked e a =
+    by_empty head text false (ap is_empty e) (cut_alone head text a (subst (λ (f : Framing). HoldsBody f [] (readings.cut [])) (sym e) no_chunk))
 
 pub opened : (a b : Option (List ℕ)) (old mid : Pending) (head : Head) → (t : TookHead a b old mid head) → Opened head t.taken
 opened a b old mid head t = alone head t.taken head.framing refl (subst (λ (l : List ℕ). Accepts (drop_blank l) head []) (append-nil t.taken) (t.accepts []))
+
+-- it has that head
+is_unread : (head : Head) (empty : Bool) → IsOf head (if empty then stream.whole head [] else stream.cut head [])
+is_unread head true = refl
+is_unread head false = refl
+
+pub IsOf-unread : (head : Head) → IsOf head (unread head)
+IsOf-unread head = is_unread head (is_empty head.framing)
 
 -- a content of no bytes is whole at once
 

@@ -1,5 +1,5 @@
 -- The steps of a session.
-use Rattle.std.proofs.Common.{◌≡◌, ℕ, zero, suc, ◌+◌, ◌<◌, ◌≤◌, Bool, true, false, List, [], ◌∷◌, ◌++◌, length, Ok, refl, sym, ap, ◌∙◌, subst, arith, inl, inr, append_assoc, append-nil, length-append}
+use Rattle.std.proofs.Common.{◌≡◌, ◌⊎◌, ℕ, zero, suc, ◌+◌, ◌<◌, ◌≤◌, Bool, true, false, List, [], ◌∷◌, ◌++◌, length, refl, sym, ap, ◌∙◌, subst, arith, inl, inr, append_assoc, append-nil, length-append}
 use Rattle.std.specs.declared.option.Option.{Option}
 use Rattle.std.specs.Io.KnownBytes.{Consumes, Appends}
 use Rattle.std.proofs.KnownBytes.{Consumes-nil, Consumes-trans, Appends-nil, Appends-trans}
@@ -11,39 +11,39 @@ use Rattle.http_requests.specs.Requests.{Item, Asks, AreRequests}
 use Rattle.http_requests.specs.Heads.{Accepts}
 use Rattle.http_chunks.specs.Reading as readings
 use Rattle.http_front.specs.Reading.{TookHead, TookContent}
-use Rattle.http_front.specs.Replying.{Says, IsAnswered}
+use Rattle.http_front.specs.Chains.{Answering, Chain}
+use Rattle.http_front.proofs.Chained.{Chain-one, Chain-append}
 
--- Where a session stands: the requests `front` were taken from the bytes `done`, and what is said to them was written. `Stands` holds of what is said from here on.
-pub record Runs (Stands : Says → Type 0) (says : Says) (left left' taken taken' : Option (List ℕ)) (now : Pending) : Type 0 where
-  pub next : Says
+-- Where a session stands: the requests `front` were taken from the bytes `done`, and they were answered one after another, with what was written.
+-- No answer ended the session.
+pub record Runs {A : Type 0} (Answers : Answering A) (is_over : A → Bool) (x y : A) (left left' taken taken' : Option (List ℕ)) (now : Pending) : Type 0 where
   pub done : List ℕ
   pub front : List Item
   pub read : List ℕ
   pub written : List ℕ
-  pub stands : Stands next
   pub consumed : Consumes left left' read
   pub parts : read ≡ done ++ now.waiting
   pub count : length read ≡ now.total
   pub few : now.total ≤ input_limit
   pub wrote : Appends taken taken' written
   pub holds : (more : List ℕ) (items : List Item) (inside : Bool) → AreRequests more items inside → AreRequests (done ++ more) (front ++ items) inside
-  pub said : (items : List Item) → says (front ++ items) ≡ written ++ next items
+  pub made : Chain Answers is_over x front written y
+  pub not_over : (is_over y ≡ false) ⊎ (front ≡ [])
 
-pub started : (Stands : Says → Type 0) (says : Says) (a t : Option (List ℕ)) (now : Pending) → Stands says → now ≡ record { waiting = []; total = 0 } → Runs Stands says a a t t now
-started Stands says a t now s e = record {
-  next = says;
+pub started : {A : Type 0} (Answers : Answering A) (is_over : A → Bool) (x : A) (a t : Option (List ℕ)) (now : Pending) → now ≡ record { waiting = []; total = 0 } → Runs Answers is_over x x a a t t now
+started Answers is_over x a t now e = record {
   done = [];
   front = [];
   read = [];
   written = [];
-  stands = s;
   consumed = Consumes-nil a;
   parts = sym (ap (λ (p : Pending). p.waiting) e);
   count = sym (ap (λ (p : Pending). p.total) e);
   few = omega (arith, ap (λ (p : Pending). p.total) e);
   wrote = Appends-nil t;
   holds = λ more items inside h. h;
-  said = λ items. refl;
+  made = (refl, refl);
+  not_over = inr refl;
 }
 
 -- the bytes that were read, when more came
@@ -100,7 +100,7 @@ stands_alone a b old new asked content k = subst (λ (l : List ℕ). AreRequests
     by_close false e = stands_first a b old new asked content k e [] [] false refl
 
 -- the requests that were taken, and one more behind them
-taken_holds : (done step : List ℕ) (front : List Item) (item : Item)
+pub taken_holds : (done step : List ℕ) (front : List Item) (item : Item)
     → ((more : List ℕ) (items : List Item) (inside : Bool) → AreRequests more items inside → AreRequests (done ++ more) (front ++ items) inside)
     → ((more : List ℕ) (items : List Item) (inside : Bool) → AreRequests more items inside → AreRequests (step ++ more) (item ∷ items) inside)
     → (more : List ℕ) (items : List Item) (inside : Bool) → AreRequests more items inside → AreRequests ((done ++ step) ++ more) ((front ++ item ∷ []) ++ items) inside
@@ -108,22 +108,24 @@ taken_holds done step front item f g more items inside h =
     subst (λ (l : List ℕ). AreRequests l ((front ++ item ∷ []) ++ items) inside) (sym (append_assoc done step more))
     (subst (λ (l : List Item). AreRequests (done ++ (step ++ more)) l inside) (sym (append_assoc front (item ∷ []) items)) (f (step ++ more) (item ∷ items) inside (g more items inside h)))
 
+-- the bytes that were read, when a request was taken
+pub read_behind : (b c : Option (List ℕ)) (old new : Pending) (asked : Head) (content done read : List ℕ) → read ≡ done ++ old.waiting → (k : Took b c old new asked content) → read ++ k.came ≡ (done ++ k.text) ++ new.waiting
+read_behind b c old new asked content done read e k = all_read done old.waiting k.came read e ∙ ap (λ (l : List ℕ). done ++ l) k.parts ∙ sym (append_assoc done k.text new.waiting)
+
 -- the request was answered, and the session goes on
-pub answered : (Old New : Says → Type 0) (says : Says) (a b c t u v : Option (List ℕ)) (old new : Pending) (asked : Head) (content : List ℕ)
-    → (r : Runs Old says a b t u old) → Took b c old new asked content → asked.closes ≡ false → IsAnswered r.next New (stream.whole asked content) u v (Ok tt) → Runs New says a c t v new
-answered Old New says a b c t u v old new asked content r k goes (answer, next, stands, tells, wrote) = record {
-  next = next;
+pub answered : {A : Type 0} (Answers : Answering A) (is_over : A → Bool) (x y z : A) (a b c t u v : Option (List ℕ)) (old new : Pending) (asked : Head) (content answer : List ℕ)
+    → (r : Runs Answers is_over x y a b t u old) → Took b c old new asked content → asked.closes ≡ false → Answers y z (stream.whole asked content) answer → is_over z ≡ false → Appends u v answer → Runs Answers is_over x z a c t v new
+answered Answers is_over x y z a b c t u v old new asked content answer r k goes is not wrote = record {
   done = r.done ++ k.text;
   front = r.front ++ stream.whole asked content ∷ [];
   read = r.read ++ k.came;
   written = r.written ++ answer;
-  stands = stands;
   consumed = Consumes-trans a b c r.read k.came r.consumed k.consumed;
-  parts = all_read r.done old.waiting k.came r.read r.parts ∙ ap (λ (l : List ℕ). r.done ++ l) k.parts ∙ sym (append_assoc r.done k.text new.waiting);
+  parts = read_behind b c old new asked content r.done r.read r.parts k;
   count = omega (arith, length-append r.read k.came, r.count, k.count);
   few = k.within r.few;
   wrote = Appends-trans t u v r.written answer r.wrote wrote;
   holds = taken_holds r.done k.text r.front (stream.whole asked content) r.holds (stands_first b c old new asked content k goes);
-  said = λ items. ap says (append_assoc r.front (stream.whole asked content ∷ []) items) ∙ r.said (stream.whole asked content ∷ items)
-      ∙ ap (λ (l : List ℕ). r.written ++ l) (tells items) ∙ sym (append_assoc r.written answer (next items));
+  made = Chain-append Answers is_over x y z r.front (stream.whole asked content ∷ []) r.written answer r.not_over r.made (Chain-one Answers is_over y z (stream.whole asked content) answer is);
+  not_over = inl not;
 }

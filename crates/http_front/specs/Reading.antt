@@ -94,6 +94,11 @@ IsContent Hands Denies left left' ended reads reads' old new framing (contents.H
 IsContent Hands Denies left left' ended reads reads' old new framing contents.Last = (taken : List ℕ) × Moves left left' old new taken × Denies (Ok tt)
 IsContent Hands Denies left left' ended reads reads' old new framing (contents.Unsaid why) = (taken : List ℕ) × Moves left left' old new taken × Denies (Err why)
 
+-- the session is over where the request was answered meanwhile
+abbrev pub EndsIfDenied : Bool → Content → Type 0
+EndsIfDenied over contents.Last = over ≡ true
+EndsIfDenied over content = Unit {0}
+
 -- a fault of writing only where the sink's count rose
 abbrev pub HasContentCause : ℕ → ℕ → Content → Type 0
 HasContentCause writes writes' (contents.Unsaid why) = HasSinkCause {A = Unit {0}} writes writes' (Err why)

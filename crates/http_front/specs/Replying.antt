@@ -1,5 +1,5 @@
 -- What was written of the answer to a request.
-use Rattle.std.specs.Prelude.{◌≡◌, ℕ, ◌≤◌, true, false, if◌then◌else◌, List, [], ◌++◌, length, take, Result, Ok, Err}
+use Rattle.std.specs.Prelude.{◌≡◌, ℕ, ◌≤◌, Bool, true, false, if◌then◌else◌, List, [], ◌++◌, length, take, Result, Ok, Err}
 use Rattle.std.specs.declared.option.Option.{Option}
 use Rattle.std.specs.Io.KnownBytes.{Appends}
 use Rattle.nx_io.specs.Causes.{Rose}
@@ -47,6 +47,29 @@ abbrev pub Feeds : (Item → List ℕ → Type 0) → Type 0 → Type 0 → Head
 Feeds Answers Waits Fails head said taken taken' (Ok fed.Taken) = Waits × Appends taken taken' []
 Feeds Answers Waits Fails head said taken taken' (Ok fed.Last) = IsAnswered (AnswersAll Answers head) Fails said taken taken' (Ok tt)
 Feeds Answers Waits Fails head said taken taken' (Err why) = IsAnswered (AnswersAll Answers head) Fails said taken taken' (Err why)
+
+-- What was written when the content had come whole. Taken: the rest of the answer to a request that doesn't close. Last: the rest of the
+-- answer, which ends the session. Else a front of it.
+abbrev pub Finishes : (List ℕ → Type 0) → Type 0 → Bool → List ℕ → Option (List ℕ) → Option (List ℕ) → Result Fed Unsaid → Type 0
+Finishes Is Fails closes said taken taken' (Ok fed.Taken) = (closes ≡ false) × IsAnswered Is Fails said taken taken' (Ok tt)
+Finishes Is Fails closes said taken taken' (Ok fed.Last) = IsAnswered Is Fails said taken taken' (Ok tt)
+Finishes Is Fails closes said taken taken' (Err why) = IsAnswered Is Fails said taken taken' (Err why)
+
+-- whether the session is over, behind the answer to a head
+abbrev pub EndsAtLast : Bool → Begun → Type 0
+EndsAtLast over Wanted = Unit {0}
+EndsAtLast over Answered = over ≡ false
+EndsAtLast over Last = over ≡ true
+
+-- behind a part of a content
+abbrev pub EndsIfLast : Bool → Fed → Type 0
+EndsIfLast over fed.Taken = Unit {0}
+EndsIfLast over fed.Last = over ≡ true
+
+-- and behind the answer to a whole content
+abbrev pub EndsJustAtLast : Bool → Fed → Type 0
+EndsJustAtLast over fed.Taken = over ≡ false
+EndsJustAtLast over fed.Last = over ≡ true
 
 -- a fault of writing only where the sink's count rose
 abbrev pub HasSinkCause : {A : Type 0} → ℕ → ℕ → Result A Unsaid → Type 0

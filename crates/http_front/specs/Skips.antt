@@ -1,5 +1,5 @@
--- What is taken from the bytes that wait: line ends between requests, and a content.
-use Rattle.std.specs.Prelude.{◌≡◌, List, [], ℕ, ◌<◌, ◌≤◌, ◌++◌, length}
+-- The line ends between requests, which are taken from the bytes that wait.
+use Rattle.std.specs.Prelude.{◌≡◌, List, ℕ, ◌++◌}
 use Rattle.http_heads.specs.Cut.{drop_blank}
 use Rattle.http_front.specs.Buffers.{Pending}
 
@@ -14,12 +14,3 @@ pub record Skips (old new : Pending) : Type 0 where
   pub dropped : IsBlank blank
   pub all : drop_blank new.waiting ≡ new.waiting
   pub total : new.total ≡ old.total
-
--- bytes in front moved behind a content, which then has its size, or none wait
-pub record Pours (old new : Pending) (content content' : List ℕ) (size : ℕ) : Type 0 where
-  pub front : List ℕ
-  pub grown : content' ≡ content ++ front
-  pub parts : old.waiting ≡ front ++ new.waiting
-  pub total : new.total ≡ old.total
-  pub few : length content' ≤ size
-  pub emptied : length content' < size → new.waiting ≡ []

@@ -1,7 +1,7 @@
-ghost use Rattle.std.specs.Prelude.{◌≡◌, ◌≤◌, ◌++◌, ◌^◌, ℕ, List, [], false, drop, take, length, OnOk, OnErr, IsTrue, ◌↔◌, ◌<◌};
+ghost use Rattle.std.specs.Prelude.{◌≡◌, ◌≤◌, ◌++◌, ◌^◌, [], false, drop, length, OnOk, OnErr, IsTrue, ◌↔◌, ◌<◌};
 ghost use Rattle.http_front.specs.Buffers.{Pending};
 ghost use Rattle.http_front.specs.Fills.{Filled};
-ghost use Rattle.http_front.specs.Skips.{Skips, Pours};
+ghost use Rattle.http_front.specs.Skips.{Skips};
 
 use crate::fill::Fill;
 use crate::halt::Halt;
@@ -76,28 +76,6 @@ impl Buffer {
         ensures { IsTrue result ↔ (0 < length self.now.waiting) }
     {
         self.at < self.bytes.len()
-    }
-
-    /// Moves bytes in front behind a content, until that has `size` bytes or none wait.
-    pub fn pour(&mut self, content: &mut Vec<u8>, size: usize) -> Result<(), NoMemory>
-        requires { length content.old.items ≤ size }
-        ensures ok { OnOk result (Pours self.old self.new content.old.items content.new.items size) }
-        ensures err { OnErr result (self.new ≡ self.old) }
-    {
-        let count = self.waiting().len().min(size - content.len());
-        self.move_first(content, count)
-    }
-
-    /// Moves so many bytes in front behind a content.
-    pub fn move_first(&mut self, content: &mut Vec<u8>, count: usize) -> Result<(), NoMemory>
-        requires { count ≤ length self.old.waiting }
-        ensures content { OnOk result (content.new.items ≡ content.old.items ++ take count self.old.waiting) }
-        ensures rest { OnOk result (self.new ≡ record self.old { waiting = drop count self.old.waiting }) }
-        ensures err { OnErr result (self.new ≡ self.old) }
-    {
-        append(content, &self.waiting()[..count])?;
-        self.take(count);
-        Ok(())
     }
 
     /// Puts bytes behind those that wait, and forgets those that were taken.

@@ -1,8 +1,8 @@
-ghost use Rattle.std.specs.Prelude.{◌≡◌, ◌≤◌, ◌++◌, ℕ, List, length, take, drop};
+ghost use Rattle.std.specs.Prelude.{◌≡◌, ◌≤◌, ◌++◌, ℕ, List, length, take, drop, IfOk};
 ghost use Rattle.http_heads.specs.declared.framing.Framing.TheVariants as framings;
-ghost use Rattle.http_front.specs.Reading.{IsContent, HasContentCause};
+ghost use Rattle.http_front.specs.Reading.{IsContent, EndsIfDenied, HasContentCause};
 ghost use Rattle.http_front.specs.Handing.{HandsOver, IsDenied};
-ghost use Rattle.http_front.specs.Replying.{Feeds, HasSinkCause};
+ghost use Rattle.http_front.specs.Replying.{Feeds, EndsIfLast, HasSinkCause};
 
 use crate::buffer::Buffer;
 use crate::fed::Fed;
@@ -38,6 +38,7 @@ pub fn read_content<R: Replies, S: Source, K: Sink>(
 ) -> Content
     ensures content { IsContent (HandsOver R.Waits replies.old replies.new head.now (K.taken output.old) (K.taken output.new)) (IsDenied R.Answers R.Waits R.Fails replies.old replies.new head.now (K.taken output.old) (K.taken output.new)) (S.left input.old) (S.left input.new) (S.ended input.new) (S.faults input.old) (S.faults input.new) buffer.old buffer.new head.now.framing result }
     ensures later { S.faults input.old ≤ S.faults input.new }
+    ensures over { EndsIfDenied (R.is_over replies.new) result }
     ensures cause { HasContentCause (K.faults output.old) (K.faults output.new) result }
 {
     match head.framing {
@@ -58,6 +59,7 @@ fn hand_over<R: Replies, K: Sink>(
     requires { count ≤ length buffer.old.waiting }
     ensures rest { buffer.new ≡ record buffer.old { waiting = drop count buffer.old.waiting } }
     ensures said { (start : R) (content said : List ℕ) → R.Waits start replies.old head.now content said → Feeds (R.Answers start replies.new) (R.Waits start replies.new head.now (content ++ take count buffer.old.waiting) said) (R.Fails replies.old replies.new) head.now said (K.taken output.old) (K.taken output.new) result }
+    ensures over { IfOk result (EndsIfLast (R.is_over replies.new)) }
     ensures cause { HasSinkCause (K.faults output.old) (K.faults output.new) result }
 {
     let fed = replies.part(head, &buffer.waiting()[..count], output);
@@ -76,13 +78,14 @@ fn read_sized<R: Replies, S: Source, K: Sink>(
 ) -> Content
     ensures content { IsContent (HandsOver R.Waits replies.old replies.new head.now (K.taken output.old) (K.taken output.new)) (IsDenied R.Answers R.Waits R.Fails replies.old replies.new head.now (K.taken output.old) (K.taken output.new)) (S.left input.old) (S.left input.new) (S.ended input.new) (S.faults input.old) (S.faults input.new) buffer.old buffer.new (framings.Length size) result }
     ensures later { S.faults input.old ≤ S.faults input.new }
+    ensures over { EndsIfDenied (R.is_over replies.new) result }
     ensures cause { HasContentCause (K.faults output.old) (K.faults output.new) result }
 {
     let mut left = size;
     'pieces: while left > 0 {
         if !buffer.has_waiting() {
             match buffer.fill(input) {
-                Fill::Bytes => {}
+                Fill::Bytes => continue 'pieces,
                 Fill::End => return Content::Cut,
                 Fill::Halt(halt) => return Content::Halt(halt),
             }
@@ -107,6 +110,7 @@ fn read_chunked<R: Replies, S: Source, K: Sink>(
 ) -> Content
     ensures content { IsContent (HandsOver R.Waits replies.old replies.new head.now (K.taken output.old) (K.taken output.new)) (IsDenied R.Answers R.Waits R.Fails replies.old replies.new head.now (K.taken output.old) (K.taken output.new)) (S.left input.old) (S.left input.new) (S.ended input.new) (S.faults input.old) (S.faults input.new) buffer.old buffer.new framings.Chunked result }
     ensures later { S.faults input.old ≤ S.faults input.new }
+    ensures over { EndsIfDenied (R.is_over replies.new) result }
     ensures cause { HasContentCause (K.faults output.old) (K.faults output.new) result }
 {
     let mut chunks = Chunks::new();

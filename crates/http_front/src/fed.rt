@@ -1,8 +1,8 @@
-/// What became of a part of a content.
+/// What became of a part of a content, or of the whole.
 #[derive(Clone, Copy, Debug, PartialEq, Eq)]
 pub enum Fed {
-    /// The next part is wanted.
+    /// The next part is wanted, or the next request.
     Taken,
-    /// The upload failed: the request is answered, and the session ends.
+    /// The request is answered, and the session ends.
     Last,
 }

@@ -15,9 +15,13 @@
 //! ([`sound_turns_are_output`]), and what that makes are turns ([`output_is_turns`]).
 //!
 //! [`run_session`] reads requests from a source and hands them to what
-//! answers them ([`Replies`]): first the head, and where its content is wanted, be it none, then the content, by its framing.
-//! Its contract says of each end ([`End`]) what was read and what was written (`EndsAs`, specs/Sessions.antt), however the
-//! bytes come: the requests that were read have been answered, in their order, and nothing else was written.
+//! answers them ([`Replies`]): first the head, and where its content is wanted, be it none, then the content, by its framing,
+//! part by part as it comes, with no copy beyond the bytes that were read and wait. What answers says by a relation which bytes
+//! answer which request, so that an answer may depend on more than the requests: on a repository and on its faults.
+//!
+//! The contract of [`run_session`] says of each end ([`End`]) what was read and what was written (`EndsAs`, specs/Sessions.antt),
+//! however the bytes come: the requests that were read have been answered one after another (`Chain`, specs/Chains.antt), each from
+//! where the one before it left, and nothing else was written. Where a write or a download failed, a front of the last answer was.
 #![tactic(auto)]
 
 mod begun;
@@ -44,3 +48,6 @@ pub use laws::{
 pub use replies::{Replies, Unsaid};
 pub use session::run_session;
 pub use stop::Stop;
+
+#[cfg(test)]
+mod tests;

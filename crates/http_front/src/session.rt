@@ -4,6 +4,7 @@ use crate::begun::Begun;
 use crate::buffer::Buffer;
 use crate::content_reader::{Content, read_content};
 use crate::end::End;
+use crate::fed::Fed;
 use crate::head_reader::{NextHead, next_head};
 use crate::replies::Replies;
 use nx_io::{Sink, Source};
@@ -16,7 +17,7 @@ pub fn run_session<R: Replies, S: Source, K: Sink>(
     input: &mut S,
     output: &mut K,
 ) -> End
-    ensures said { EndsAs R.Answers R.Fails result replies.old replies.new (S.left input.old) (S.left input.new) (S.ended input.new) (K.taken output.old) (K.taken output.new) }
+    ensures said { EndsAs R.Answers R.Fails R.is_over result replies.old replies.new (S.left input.old) (S.left input.new) (S.ended input.new) (K.taken output.old) (K.taken output.new) }
     ensures cause { HasEndCause result (S.faults input.old) (S.faults input.new) (K.faults output.old) (K.faults output.new) }
 {
     let mut buffer = Buffer::new(alloc);
@@ -49,12 +50,10 @@ pub fn run_session<R: Replies, S: Source, K: Sink>(
             Content::Last => return End::Closed,
             Content::Unsaid(unsaid) => return End::of_unsaid(unsaid),
         }
-        let closes = head.closes;
-        if let Err(unsaid) = replies.whole(head, output) {
-            return End::of_unsaid(unsaid);
-        }
-        if closes {
-            return End::Closed;
+        match replies.whole(head, output) {
+            Ok(Fed::Taken) => {}
+            Ok(Fed::Last) => return End::Closed,
+            Err(unsaid) => return End::of_unsaid(unsaid),
         }
     }
 }

@@ -1,50 +1,72 @@
-use Rattle.std.proofs.Common.{ℕ, ◌<◌, List, length, sym, ◌∙◌, subst, arith}
-use Rattle.http_heads.specs.declared.framing.Framing.TheVariants as framings
-use Rattle.http_front.specs.Buffers.{Pending}
-use Rattle.http_front.specs.Skips.{Pours}
-use Rattle.http_front.specs.Fills.{Came}
-use Rattle.http_front.specs.Reading.{Moves, IsCut}
-use Rattle.http_front.proofs.Comes.{came_more, took, halted, met_end, ok_of}
-use Rattle.http_front.proofs.Contents.{sized, short}
+use Rattle.std.proofs.Common.{◌≡◌, ℕ, ◌≤◌, ◌+◌, ◌-◌, List, ◌++◌, length, Ok, Err, take, ap, subst, arith, length-append}
+use Rattle.std.proofs.lemmas.List.{length-take-le}
+use Rattle.http_front.specs.Replying.{Feeds}
+use Rattle.http_front.specs.declared.fed.Fed.{Fed}
+use Rattle.http_front.proofs.Comes.{unmoved, came_more}
+use Rattle.http_front.proofs.Contents.{took_first}
+use Rattle.http_front.proofs.Handed.{none_handed, more_handed, denied_at}
 use Rattle.http_front.proofs.content_reader.read_sized.Goals as goal
 
--- the content, and the bytes in front that moved to it
-poured : (a b : _) (old mid new : Pending) (content content' : List ℕ) (size : ℕ) → Moves a b old mid content → Pours mid new content content' size → Moves a b old new content'
-poured a b old mid new content content' size m p = subst (Moves a b old new) (sym p.grown) (took a b old mid new content p.front m p.parts p.total)
+pub pieces-init : goal.pieces-init
+pieces-init g c = record {
+  content = _;
+  moves = unmoved (g.S.Source.left c.args.input.now) c.args.buffer.now;
+  count = omega arith;
+  hands = none_handed g.R.Replies.Waits c.args.replies.now c.args.head.now _;
+  later = omega arith;
+  writes = omega arith;
+}
 
-pub pieces-smaller : goal.pieces-smaller
-pieces-smaller g c =
-    let p : Pours c.pieces.buffer c.pour.new.self c.pieces.content.items c.pour.new.content.items c.args.size = ok_of _ c.pour.result (sym c.is_err.ensures.value ∙ c.if-is_err.false) c.pour.ensures.ok in
-    let x : Came (g.S.Source.left c.pieces.input) (g.S.Source.left c.fill.new.input) c.pour.new.self c.fill.new.self = c.in-Bytes.ensures.filled in
-    omega (arith, p.total, x.count, x.some, c.fill.ensures.within)
+pub pieces-preserved-in-Bytes : goal.pieces-preserved-in-Bytes
+pieces-preserved-in-Bytes g c =
+    let i = c.pieces.invariant in
+    record {
+      content = i.content;
+      moves = came_more _ _ _ _ _ _ i.content i.moves c.in-Bytes.ensures.filled c.fill.ensures.within;
+      count = i.count;
+      hands = i.hands;
+      later = omega (arith, i.later, c.fill.ensures.later);
+      writes = i.writes;
+    }
+
+-- what is left of a content behind a part
+left_of : (content part : List ℕ) (n left size : ℕ) → length content + left ≡ size → length part ≡ n → n ≤ left → length (content ++ part) + (left - n) ≡ size
+left_of content part n left size e f le = omega (arith, length-append content part, e, f, le)
 
 pub pieces-preserved : goal.pieces-preserved
 pieces-preserved g c =
-    let p : Pours c.pieces.buffer c.pour.new.self c.pieces.content.items c.pour.new.content.items c.args.size = ok_of _ c.pour.result (sym c.is_err.ensures.value ∙ c.if-is_err.false) c.pour.ensures.ok in
+    let i = c.pieces.invariant in
+    let n = c.min-count.result in
+    let front : List ℕ = take n c.pieces.buffer.waiting in
+    let few : n ≤ length c.pieces.buffer.waiting = omega (arith, c.min-count.ensures, ap length c.waiting.ensures) in
     record {
-      moves = came_more _ _ _ _ _ _ c.pour.new.content.items (poured _ _ _ _ _ c.pieces.content.items c.pour.new.content.items c.args.size c.pieces.invariant.moves p) c.in-Bytes.ensures.filled c.fill.ensures.within;
-      few = p.few;
-      later = omega (arith, c.pieces.invariant.later, c.fill.ensures.later);
+      content = i.content ++ front;
+      moves = took_first _ _ c.args.buffer.now c.pieces.buffer c.hand_over.new.buffer i.content n i.moves c.hand_over.ensures.rest;
+      count = left_of i.content front n c.pieces.left c.args.size i.count (length-take-le n c.pieces.buffer.waiting few) (omega (arith, c.min-count.ensures));
+      hands = more_handed g.R.Replies.Answers g.R.Replies.Waits (g.R.Replies.Fails c.pieces.replies c.hand_over.new.replies) c.args.replies.now c.pieces.replies c.hand_over.new.replies c.args.head.now _ (g.K.Sink.taken c.pieces.output) (g.K.Sink.taken c.hand_over.new.output) i.content front i.hands
+          (λ start content said h. subst (λ (x : Fed). Feeds (g.R.Replies.Answers start c.hand_over.new.replies) (g.R.Replies.Waits start c.hand_over.new.replies c.args.head.now (content ++ front) said) (g.R.Replies.Fails c.pieces.replies c.hand_over.new.replies) c.args.head.now said (g.K.Sink.taken c.pieces.output) (g.K.Sink.taken c.hand_over.new.output) (Ok x)) c.in-Ok-Taken.field-0-is (c.in-Ok-Taken.ensures.said start content said h));
+      later = i.later;
+      writes = omega (arith, i.writes, c.in-Ok-Taken.ensures.cause);
     }
 
-pub returns-then-len-size-clause-content : goal.returns-then-len-size-clause-content
-returns-then-len-size-clause-content g c =
-    let p : Pours c.pieces.buffer c.pour.new.self c.pieces.content.items c.pour.new.content.items c.args.size = ok_of _ c.pour.result (sym c.is_err.ensures.value ∙ c.if-is_err.false) c.pour.ensures.ok in
-    sized _ _ c.args.buffer.now c.pour.new.self c.pour.new.content.items c.args.size
-    (poured _ _ _ _ _ c.pieces.content.items c.pour.new.content.items c.args.size c.pieces.invariant.moves p) (omega (arith, c.if-len-size.true, c.len.ensures))
+pub returns-in-Ok-Last-clause-content : goal.returns-in-Ok-Last-clause-content
+returns-in-Ok-Last-clause-content g c =
+    let i = c.pieces.invariant in
+    let n = c.min-count.result in
+    let front : List ℕ = take n c.pieces.buffer.waiting in (
+      i.content ++ front,
+      took_first _ _ c.args.buffer.now c.pieces.buffer c.hand_over.new.buffer i.content n i.moves c.hand_over.ensures.rest,
+      denied_at g.R.Replies.Answers g.R.Replies.Waits g.R.Replies.Fails c.args.replies.now c.pieces.replies c.hand_over.new.replies c.args.head.now _ (g.K.Sink.taken c.pieces.output) (g.K.Sink.taken c.hand_over.new.output) i.content (Ok tt) i.hands
+          (λ start content said h. subst (λ (x : Fed). Feeds (g.R.Replies.Answers start c.hand_over.new.replies) (g.R.Replies.Waits start c.hand_over.new.replies c.args.head.now (content ++ front) said) (g.R.Replies.Fails c.pieces.replies c.hand_over.new.replies) c.args.head.now said (g.K.Sink.taken c.pieces.output) (g.K.Sink.taken c.hand_over.new.output) (Ok x)) c.in-Ok-Last.field-0-is (c.in-Ok-Last.ensures.said start content said h)),
+    )
 
-pub returns-in-End-clause-content : goal.returns-in-End-clause-content
-returns-in-End-clause-content g c =
-    let p : Pours c.pieces.buffer c.pour.new.self c.pieces.content.items c.pour.new.content.items c.args.size = ok_of _ c.pour.result (sym c.is_err.ensures.value ∙ c.if-is_err.false) c.pour.ensures.ok in
-    let m : Moves (g.S.Source.left c.args.input.now) (g.S.Source.left c.pieces.input) c.args.buffer.now c.pour.new.self c.pour.new.content.items = poured _ _ _ _ _ c.pieces.content.items c.pour.new.content.items c.args.size c.pieces.invariant.moves p in
-    let less : length c.pour.new.content.items < c.args.size = omega (arith, p.few, c.if-len-size.false, c.len.ensures) in
-    let f = c.in-End.ensures.filled in
-    met_end _ _ _ _ _ _ c.pour.new.content.items (IsCut c.args.buffer.now (framings.Length c.args.size)) m f.0 f.1 f.2 (short _ _ c.args.buffer.now c.pour.new.self c.pour.new.content.items c.args.size m (p.emptied less) less)
-
-pub returns-in-Halt-clause-content : goal.returns-in-Halt-clause-content
-returns-in-Halt-clause-content g c =
-    let p : Pours c.pieces.buffer c.pour.new.self c.pieces.content.items c.pour.new.content.items c.args.size = ok_of _ c.pour.result (sym c.is_err.ensures.value ∙ c.if-is_err.false) c.pour.ensures.ok in
-    let m : Moves (g.S.Source.left c.args.input.now) (g.S.Source.left c.pieces.input) c.args.buffer.now c.pour.new.self c.pour.new.content.items = poured _ _ _ _ _ c.pieces.content.items c.pour.new.content.items c.args.size c.pieces.invariant.moves p in
-    let less : length c.pour.new.content.items < c.args.size = omega (arith, p.few, c.if-len-size.false, c.len.ensures) in
-    halted _ _ _ _ _ c.pour.new.content.items _ _ _ c.in-Halt.halt (IsCut c.args.buffer.now (framings.Length c.args.size)) m c.pieces.invariant.later c.in-Halt.ensures.filled.0
-    (short _ _ c.args.buffer.now c.pour.new.self c.pour.new.content.items c.args.size m (p.emptied less) less)
+pub returns-in-Err-clause-content : goal.returns-in-Err-clause-content
+returns-in-Err-clause-content g c =
+    let i = c.pieces.invariant in
+    let n = c.min-count.result in
+    let front : List ℕ = take n c.pieces.buffer.waiting in (
+      i.content ++ front,
+      took_first _ _ c.args.buffer.now c.pieces.buffer c.hand_over.new.buffer i.content n i.moves c.hand_over.ensures.rest,
+      denied_at g.R.Replies.Answers g.R.Replies.Waits g.R.Replies.Fails c.args.replies.now c.pieces.replies c.hand_over.new.replies c.args.head.now _ (g.K.Sink.taken c.pieces.output) (g.K.Sink.taken c.hand_over.new.output) i.content (Err c.in-Err.unsaid) i.hands
+          (λ start content said h. c.in-Err.ensures.said start content said h),
+    )

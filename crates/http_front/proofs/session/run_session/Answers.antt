@@ -1,15 +1,19 @@
 use Rattle.std.proofs.Common.{◌≡◌, ℕ, zero, suc, ◌⊎◌, inl, inr, ◌+◌, ◌-◌, ◌*◌, ◌^◌, ◌<◌, ◌≤◌, List, [], ◌++◌, length, Ok, refl, sym, ap, ◌∙◌, subst, arith, append-nil, length-append}
-use Rattle.std.proofs.KnownBytes.{Consumes-nil}
+use Rattle.std.proofs.KnownBytes.{Appends-nil}
 use Rattle.http_front.specs.Buffers.{Pending, input_limit}
-use Rattle.http_front.specs.Reading.{Moves, TookHead, MetStop, HasNoRequest}
-use Rattle.http_front.specs.Replying.{Begins}
+use Rattle.http_front.specs.Handing.{HandsOver}
+use Rattle.http_front.specs.Reading.{Moves, TookHead, MetStop}
+use Rattle.http_front.specs.Replying.{Begins, Finishes, EndsAtLast, EndsJustAtLast}
 use Rattle.http_front.specs.Sessions.{EndsAs}
 use Rattle.http_front.specs.declared.begun.Begun.{Begun}
 use Rattle.http_front.specs.declared.end.End.{End}
+use Rattle.http_front.specs.declared.fed.Fed.{Fed}
+use Rattle.http_requests.specs.Requests as stream
+use Rattle.http_front.proofs.Chained.{joined}
 use Rattle.http_front.proofs.Runs.{started, took_both}
 use Rattle.http_front.proofs.Ends.{halt_said, input_ended, refused}
 use Rattle.http_front.proofs.Opened.{put_if_stopped}
-use Rattle.http_front.proofs.Middle.{wanted, begin_unsaid, begin_answered, begin_last, whole_answered, whole_closed, whole_unsaid, stopped, cut_ended, cut_halted}
+use Rattle.http_front.proofs.Middle.{Wants, wanted, handed, begin_unsaid, begin_answered, begin_last, denied_whole, denied_part, whole_answered, whole_last, whole_unsaid, stopped, cut_ended, cut_halted}
 use Rattle.http_front.proofs.session.run_session.Goals as goal
 
 none_or : (n total : ℕ) → (0 < n → total ≤ input_limit) → (n ≡ 0) ⊎ (total ≤ input_limit)
@@ -30,29 +34,26 @@ smaller old mid new came taken came2 taken2 a b w p d e v =
 
 pub requests-init : goal.requests-init
 requests-init g c = record {
-  runs = λ says stands. started (g.R.Replies.Stands c.args.replies.now) says _ _ c.new-buffer.result stands c.new-buffer.ensures;
+  runs = started g.R.Replies.Answers g.R.Replies.is_over c.args.replies.now _ _ c.new-buffer.result c.new-buffer.ensures;
   reads = omega arith;
   writes = omega arith;
 }
 
 pub returns-in-Refused-clause-said : goal.returns-in-Refused-clause-said
-returns-in-Refused-clause-said g c = λ says stands.
-    let r = c.requests.invariant.runs says stands in
-    subst (λ (e : End). EndsAs e says (g.S.Source.left c.args.input.now) (g.S.Source.left c.next_head.new.input) (g.S.Source.ended c.next_head.new.input) (g.K.Sink.taken c.args.output.now) (g.K.Sink.taken c.refused.new.output)) (sym c.of_refusal.ensures)
-    (refused _ says _ _ _ _ _ _ _ c.requests.buffer c.in-Refused.why c.in-Refused.bare c.refused.result r c.in-Refused.ensures.head (c.refused.ensures.said r.next r.stands))
+returns-in-Refused-clause-said g c =
+    subst (λ (e : End). EndsAs g.R.Replies.Answers g.R.Replies.Fails g.R.Replies.is_over e c.args.replies.now c.refused.new.self (g.S.Source.left c.args.input.now) (g.S.Source.left c.next_head.new.input) (g.S.Source.ended c.next_head.new.input) (g.K.Sink.taken c.args.output.now) (g.K.Sink.taken c.refused.new.output)) (sym c.of_refusal.ensures)
+    (refused g.R.Replies.Answers g.R.Replies.Fails g.R.Replies.is_over c.args.replies.now c.requests.replies c.refused.new.self _ _ _ _ _ _ _ c.requests.buffer c.in-Refused.why c.in-Refused.bare c.refused.result c.requests.invariant.runs c.in-Refused.ensures.head
+    (joined (g.R.Replies.Answers c.requests.replies c.refused.new.self (stream.refused c.in-Refused.why c.in-Refused.bare)) (g.R.Replies.Fails c.requests.replies c.refused.new.self) ((q : _) × g.R.Replies.Fails q c.refused.new.self) [] _ _ _ c.refused.result (λ f. (c.requests.replies, f)) (Appends-nil _) c.refused.ensures.said) c.refused.ensures.over)
 
 pub returns-in-End-clause-said : goal.returns-in-End-clause-said
-returns-in-End-clause-said g c = λ says stands.
-    let r = c.requests.invariant.runs says stands in
-    subst (λ (e : End). EndsAs e says (g.S.Source.left c.args.input.now) (g.S.Source.left c.next_head.new.input) (g.S.Source.ended c.next_head.new.input) (g.K.Sink.taken c.args.output.now) (g.K.Sink.taken c.requests.output)) (sym c.of_input.ensures)
-    (input_ended _ says _ _ _ _ _ _ c.requests.buffer c.in-End.inside r (g.met.R.Replies.silent c.requests.replies r.next r.stands) c.in-End.ensures.head)
+returns-in-End-clause-said g c =
+    subst (λ (e : End). EndsAs g.R.Replies.Answers g.R.Replies.Fails g.R.Replies.is_over e c.args.replies.now c.requests.replies (g.S.Source.left c.args.input.now) (g.S.Source.left c.next_head.new.input) (g.S.Source.ended c.next_head.new.input) (g.K.Sink.taken c.args.output.now) (g.K.Sink.taken c.requests.output)) (sym c.of_input.ensures)
+    (input_ended g.R.Replies.Answers g.R.Replies.Fails g.R.Replies.is_over c.args.replies.now c.requests.replies _ _ _ _ _ _ c.requests.buffer c.in-End.inside c.requests.invariant.runs c.in-End.ensures.head)
 
 pub returns-in-Halt-clause-said : goal.returns-in-Halt-clause-said
-returns-in-Halt-clause-said g c = λ says stands.
-    let r = c.requests.invariant.runs says stands in
-    subst (λ (e : End). EndsAs e says (g.S.Source.left c.args.input.now) (g.S.Source.left c.next_head.new.input) (g.S.Source.ended c.next_head.new.input) (g.K.Sink.taken c.args.output.now) (g.K.Sink.taken c.requests.output)) (sym c.of_halt.ensures)
-    (halt_said _ says _ _ _ _ _ _ c.requests.buffer (HasNoRequest c.requests.buffer) _ _ c.in-Halt.halt r
-    (λ came h. ([], h.0, h.1, g.met.R.Replies.silent c.requests.replies r.next r.stands)) c.in-Halt.ensures.head)
+returns-in-Halt-clause-said g c =
+    subst (λ (e : End). EndsAs g.R.Replies.Answers g.R.Replies.Fails g.R.Replies.is_over e c.args.replies.now c.requests.replies (g.S.Source.left c.args.input.now) (g.S.Source.left c.next_head.new.input) (g.S.Source.ended c.next_head.new.input) (g.K.Sink.taken c.args.output.now) (g.K.Sink.taken c.requests.output)) (sym c.of_halt.ensures)
+    (halt_said g.R.Replies.Answers g.R.Replies.Fails g.R.Replies.is_over c.args.replies.now c.requests.replies _ _ _ _ _ _ c.requests.buffer _ _ c.in-Halt.halt c.requests.invariant.runs c.in-Halt.ensures.head)
 
 pub requests-smaller-in-Ok-Answered : goal.requests-smaller-in-Ok-Answered
 requests-smaller-in-Ok-Answered g c =
@@ -63,101 +64,102 @@ pub requests-preserved-in-Ok-Answered : goal.requests-preserved-in-Ok-Answered
 requests-preserved-in-Ok-Answered g c =
     let t : TookHead (g.S.Source.left c.requests.input) (g.S.Source.left c.next_head.new.input) c.requests.buffer c.next_head.new.buffer c.in-Head.head = c.in-Head.ensures.head in
     record {
-      runs = λ says stands.
-          let r = c.requests.invariant.runs says stands in
-          begin_answered _ (g.R.Replies.Stands c.begin.new.self) (g.R.Replies.Waits c.begin.new.self c.in-Head.head) says _ _ _ _ _ _ c.requests.buffer c.next_head.new.buffer c.in-Head.head r t
-          (subst (λ (x : Begun). Begins r.next (g.R.Replies.Stands c.begin.new.self) (g.R.Replies.Waits c.begin.new.self c.in-Head.head) c.in-Head.head (g.K.Sink.taken c.requests.output) (g.K.Sink.taken c.begin.new.output) (Ok x)) c.in-Ok-Answered.field-0-is (c.in-Ok-Answered.ensures.said r.next r.stands));
+      runs = begin_answered g.R.Replies.Answers g.R.Replies.Waits (g.R.Replies.Fails c.requests.replies c.begin.new.self) g.R.Replies.is_over c.args.replies.now c.requests.replies c.begin.new.self _ _ _ _ _ _ c.requests.buffer c.next_head.new.buffer c.in-Head.head c.requests.invariant.runs t (subst (λ (x : Begun). Begins (g.R.Replies.Answers c.requests.replies c.begin.new.self) (g.R.Replies.Waits c.requests.replies c.begin.new.self c.in-Head.head []) (g.R.Replies.Fails c.requests.replies c.begin.new.self) c.in-Head.head (g.K.Sink.taken c.requests.output) (g.K.Sink.taken c.begin.new.output) (Ok x)) c.in-Ok-Answered.field-0-is c.in-Ok-Answered.ensures.said)
+          (subst (λ (x : Begun). EndsAtLast (g.R.Replies.is_over c.begin.new.self) x) c.in-Ok-Answered.field-0-is c.in-Ok-Answered.ensures.over);
       reads = omega (arith, c.requests.invariant.reads, c.next_head.ensures.later);
       writes = omega (arith, c.requests.invariant.writes, c.in-Ok-Answered.ensures.cause);
     }
 
 pub returns-in-Ok-Last-clause-said : goal.returns-in-Ok-Last-clause-said
-returns-in-Ok-Last-clause-said g c = λ says stands.
-    let r = c.requests.invariant.runs says stands in
+returns-in-Ok-Last-clause-said g c =
     let t : TookHead (g.S.Source.left c.requests.input) (g.S.Source.left c.next_head.new.input) c.requests.buffer c.next_head.new.buffer c.in-Head.head = c.in-Head.ensures.head in
-    inr (begin_last _ (g.R.Replies.Stands c.begin.new.self) (g.R.Replies.Waits c.begin.new.self c.in-Head.head) says _ _ _ _ _ _ c.requests.buffer c.next_head.new.buffer c.in-Head.head r t
-    (subst (λ (x : Begun). Begins r.next (g.R.Replies.Stands c.begin.new.self) (g.R.Replies.Waits c.begin.new.self c.in-Head.head) c.in-Head.head (g.K.Sink.taken c.requests.output) (g.K.Sink.taken c.begin.new.output) (Ok x)) c.in-Ok-Last.field-0-is (c.in-Ok-Last.ensures.said r.next r.stands)))
+    (inr (inl (begin_last g.R.Replies.Answers g.R.Replies.Waits (g.R.Replies.Fails c.requests.replies c.begin.new.self) g.R.Replies.is_over c.args.replies.now c.requests.replies c.begin.new.self _ _ _ _ _ _ c.requests.buffer c.next_head.new.buffer c.in-Head.head c.requests.invariant.runs t (subst (λ (x : Begun). Begins (g.R.Replies.Answers c.requests.replies c.begin.new.self) (g.R.Replies.Waits c.requests.replies c.begin.new.self c.in-Head.head []) (g.R.Replies.Fails c.requests.replies c.begin.new.self) c.in-Head.head (g.K.Sink.taken c.requests.output) (g.K.Sink.taken c.begin.new.output) (Ok x)) c.in-Ok-Last.field-0-is c.in-Ok-Last.ensures.said))), subst (λ (x : Begun). EndsAtLast (g.R.Replies.is_over c.begin.new.self) x) c.in-Ok-Last.field-0-is c.in-Ok-Last.ensures.over)
 
 pub returns-in-Err-clause-said : goal.returns-in-Err-clause-said
-returns-in-Err-clause-said g c = λ says stands.
-    let r = c.requests.invariant.runs says stands in
+returns-in-Err-clause-said g c =
     let t : TookHead (g.S.Source.left c.requests.input) (g.S.Source.left c.next_head.new.input) c.requests.buffer c.next_head.new.buffer c.in-Head.head = c.in-Head.ensures.head in
-    subst (λ (e : End). EndsAs e says (g.S.Source.left c.args.input.now) (g.S.Source.left c.next_head.new.input) (g.S.Source.ended c.next_head.new.input) (g.K.Sink.taken c.args.output.now) (g.K.Sink.taken c.begin.new.output)) (sym c.of_unsaid.ensures)
-    (begin_unsaid _ (g.R.Replies.Stands c.begin.new.self) (g.R.Replies.Waits c.begin.new.self c.in-Head.head) says _ _ _ _ _ _ _ c.requests.buffer c.next_head.new.buffer c.in-Head.head c.in-Err.unsaid r t (Consumes-nil _)
-    (c.in-Err.ensures.said r.next r.stands))
+    subst (λ (e : End). EndsAs g.R.Replies.Answers g.R.Replies.Fails g.R.Replies.is_over e c.args.replies.now c.begin.new.self (g.S.Source.left c.args.input.now) (g.S.Source.left c.next_head.new.input) (g.S.Source.ended c.next_head.new.input) (g.K.Sink.taken c.args.output.now) (g.K.Sink.taken c.begin.new.output)) (sym c.of_unsaid.ensures)
+    (begin_unsaid g.R.Replies.Answers g.R.Replies.Waits g.R.Replies.Fails g.R.Replies.is_over c.args.replies.now c.requests.replies c.begin.new.self _ _ _ _ _ _ _ c.requests.buffer c.next_head.new.buffer c.in-Head.head c.in-Err.unsaid c.requests.invariant.runs t c.in-Err.ensures.said)
 
 pub stopped-requires : goal.stopped-requires
 stopped-requires g c =
     let t : TookHead (g.S.Source.left c.requests.input) (g.S.Source.left c.next_head.new.input) c.requests.buffer c.next_head.new.buffer c.in-Head.head = c.in-Head.ensures.head in
-    let m : MetStop (g.S.Source.left c.next_head.new.input) (g.S.Source.left c.read_content.new.input) c.next_head.new.buffer c.in-Head.head.framing c.in-Stopped.why = c.in-Stopped.ensures.content in
+    let m : MetStop (HandsOver g.R.Replies.Waits c.begin.new.self c.read_content.new.replies c.in-Head.head (g.K.Sink.taken c.begin.new.output) (g.K.Sink.taken c.read_content.new.output)) (g.S.Source.left c.next_head.new.input) (g.S.Source.left c.read_content.new.input) c.next_head.new.buffer c.in-Head.head.framing c.in-Stopped.why = c.in-Stopped.ensures.content in
     put_if_stopped c.in-Head.head _ m.1 c.in-Stopped.why t.fits (m.4 [])
 
 pub returns-in-Stopped-clause-said : goal.returns-in-Stopped-clause-said
-returns-in-Stopped-clause-said g c = λ says stands.
-    let r = c.requests.invariant.runs says stands in
+returns-in-Stopped-clause-said g c =
     let t : TookHead (g.S.Source.left c.requests.input) (g.S.Source.left c.next_head.new.input) c.requests.buffer c.next_head.new.buffer c.in-Head.head = c.in-Head.ensures.head in
-    let n = wanted (g.R.Replies.Stands c.begin.new.self) (g.R.Replies.Waits c.begin.new.self c.in-Head.head) r.next c.in-Head.head _ _
-    (subst (λ (x : Begun). Begins r.next (g.R.Replies.Stands c.begin.new.self) (g.R.Replies.Waits c.begin.new.self c.in-Head.head) c.in-Head.head (g.K.Sink.taken c.requests.output) (g.K.Sink.taken c.begin.new.output) (Ok x)) c.in-Ok-Wanted.field-0-is (c.in-Ok-Wanted.ensures.said r.next r.stands)) in
-    subst (λ (e : End). EndsAs e says (g.S.Source.left c.args.input.now) (g.S.Source.left c.read_content.new.input) (g.S.Source.ended c.read_content.new.input) (g.K.Sink.taken c.args.output.now) (g.K.Sink.taken c.stopped.new.output)) (sym c.of_refusal-in-Stopped.ensures)
-    (stopped _ (g.R.Replies.Waits c.begin.new.self c.in-Head.head) says _ _ _ _ _ _ _ _ _ c.requests.buffer c.next_head.new.buffer c.in-Head.head c.in-Stopped.why c.stopped.result r t n c.in-Stopped.ensures.content
-    (c.stopped.ensures.said n.next n.waits))
+    let n : Wants g.R.Replies.Waits c.requests.replies c.begin.new.self c.in-Head.head (g.K.Sink.taken c.requests.output) (g.K.Sink.taken c.begin.new.output) [] = wanted g.R.Replies.Answers g.R.Replies.Waits (g.R.Replies.Fails c.requests.replies c.begin.new.self) c.requests.replies c.begin.new.self c.in-Head.head (g.K.Sink.taken c.requests.output) (g.K.Sink.taken c.begin.new.output) (subst (λ (x : Begun). Begins (g.R.Replies.Answers c.requests.replies c.begin.new.self) (g.R.Replies.Waits c.requests.replies c.begin.new.self c.in-Head.head []) (g.R.Replies.Fails c.requests.replies c.begin.new.self) c.in-Head.head (g.K.Sink.taken c.requests.output) (g.K.Sink.taken c.begin.new.output) (Ok x)) c.in-Ok-Wanted.field-0-is c.in-Ok-Wanted.ensures.said) in
+    subst (λ (e : End). EndsAs g.R.Replies.Answers g.R.Replies.Fails g.R.Replies.is_over e c.args.replies.now c.stopped.new.self (g.S.Source.left c.args.input.now) (g.S.Source.left c.read_content.new.input) (g.S.Source.ended c.read_content.new.input) (g.K.Sink.taken c.args.output.now) (g.K.Sink.taken c.stopped.new.output)) (sym c.of_refusal-in-Stopped.ensures)
+    (stopped g.R.Replies.Answers g.R.Replies.Waits g.R.Replies.Fails g.R.Replies.is_over c.args.replies.now c.requests.replies c.begin.new.self c.read_content.new.replies c.stopped.new.self _ _ _ _ _ _ _ _ _ _ c.requests.buffer c.next_head.new.buffer c.in-Head.head c.in-Stopped.why c.stopped.result c.requests.invariant.runs t n c.in-Stopped.ensures.content c.stopped.ensures.said c.stopped.ensures.over)
 
 pub returns-in-Cut-clause-said : goal.returns-in-Cut-clause-said
-returns-in-Cut-clause-said g c = λ says stands.
-    let r = c.requests.invariant.runs says stands in
+returns-in-Cut-clause-said g c =
     let t : TookHead (g.S.Source.left c.requests.input) (g.S.Source.left c.next_head.new.input) c.requests.buffer c.next_head.new.buffer c.in-Head.head = c.in-Head.ensures.head in
-    let n = wanted (g.R.Replies.Stands c.begin.new.self) (g.R.Replies.Waits c.begin.new.self c.in-Head.head) r.next c.in-Head.head _ _
-    (subst (λ (x : Begun). Begins r.next (g.R.Replies.Stands c.begin.new.self) (g.R.Replies.Waits c.begin.new.self c.in-Head.head) c.in-Head.head (g.K.Sink.taken c.requests.output) (g.K.Sink.taken c.begin.new.output) (Ok x)) c.in-Ok-Wanted.field-0-is (c.in-Ok-Wanted.ensures.said r.next r.stands)) in
-    cut_ended _ (g.R.Replies.Waits c.begin.new.self c.in-Head.head) says _ _ _ _ _ _ _ _ c.requests.buffer c.next_head.new.buffer c.in-Head.head r t n (c.cut.ensures n.next n.waits) c.in-Cut.ensures.content
+    let n : Wants g.R.Replies.Waits c.requests.replies c.begin.new.self c.in-Head.head (g.K.Sink.taken c.requests.output) (g.K.Sink.taken c.begin.new.output) [] = wanted g.R.Replies.Answers g.R.Replies.Waits (g.R.Replies.Fails c.requests.replies c.begin.new.self) c.requests.replies c.begin.new.self c.in-Head.head (g.K.Sink.taken c.requests.output) (g.K.Sink.taken c.begin.new.output) (subst (λ (x : Begun). Begins (g.R.Replies.Answers c.requests.replies c.begin.new.self) (g.R.Replies.Waits c.requests.replies c.begin.new.self c.in-Head.head []) (g.R.Replies.Fails c.requests.replies c.begin.new.self) c.in-Head.head (g.K.Sink.taken c.requests.output) (g.K.Sink.taken c.begin.new.output) (Ok x)) c.in-Ok-Wanted.field-0-is c.in-Ok-Wanted.ensures.said) in
+    cut_ended g.R.Replies.Answers g.R.Replies.Waits g.R.Replies.Fails g.R.Replies.is_over c.args.replies.now c.requests.replies c.begin.new.self c.read_content.new.replies c.cut.new.self _ _ _ _ _ _ _ _ _ c.requests.buffer c.next_head.new.buffer c.in-Head.head c.requests.invariant.runs t n c.cut.ensures c.in-Cut.ensures.content
 
 pub returns-in-Halt-read_content-clause-said : goal.returns-in-Halt-read_content-clause-said
-returns-in-Halt-read_content-clause-said g c = λ says stands.
-    let r = c.requests.invariant.runs says stands in
+returns-in-Halt-read_content-clause-said g c =
     let t : TookHead (g.S.Source.left c.requests.input) (g.S.Source.left c.next_head.new.input) c.requests.buffer c.next_head.new.buffer c.in-Head.head = c.in-Head.ensures.head in
-    let n = wanted (g.R.Replies.Stands c.begin.new.self) (g.R.Replies.Waits c.begin.new.self c.in-Head.head) r.next c.in-Head.head _ _
-    (subst (λ (x : Begun). Begins r.next (g.R.Replies.Stands c.begin.new.self) (g.R.Replies.Waits c.begin.new.self c.in-Head.head) c.in-Head.head (g.K.Sink.taken c.requests.output) (g.K.Sink.taken c.begin.new.output) (Ok x)) c.in-Ok-Wanted.field-0-is (c.in-Ok-Wanted.ensures.said r.next r.stands)) in
-    subst (λ (e : End). EndsAs e says (g.S.Source.left c.args.input.now) (g.S.Source.left c.read_content.new.input) (g.S.Source.ended c.read_content.new.input) (g.K.Sink.taken c.args.output.now) (g.K.Sink.taken c.begin.new.output)) (sym c.of_halt-in-Halt-read_content.ensures)
-    (cut_halted _ (g.R.Replies.Waits c.begin.new.self c.in-Head.head) says _ _ _ _ _ _ _ _ c.requests.buffer c.next_head.new.buffer c.in-Head.head _ _ c.in-Halt-read_content.halt r t n
-    (c.cut.ensures n.next n.waits) c.in-Halt-read_content.ensures.content)
+    let n : Wants g.R.Replies.Waits c.requests.replies c.begin.new.self c.in-Head.head (g.K.Sink.taken c.requests.output) (g.K.Sink.taken c.begin.new.output) [] = wanted g.R.Replies.Answers g.R.Replies.Waits (g.R.Replies.Fails c.requests.replies c.begin.new.self) c.requests.replies c.begin.new.self c.in-Head.head (g.K.Sink.taken c.requests.output) (g.K.Sink.taken c.begin.new.output) (subst (λ (x : Begun). Begins (g.R.Replies.Answers c.requests.replies c.begin.new.self) (g.R.Replies.Waits c.requests.replies c.begin.new.self c.in-Head.head []) (g.R.Replies.Fails c.requests.replies c.begin.new.self) c.in-Head.head (g.K.Sink.taken c.requests.output) (g.K.Sink.taken c.begin.new.output) (Ok x)) c.in-Ok-Wanted.field-0-is c.in-Ok-Wanted.ensures.said) in
+    subst (λ (e : End). EndsAs g.R.Replies.Answers g.R.Replies.Fails g.R.Replies.is_over e c.args.replies.now c.cut-in-Halt-read_content.new.self (g.S.Source.left c.args.input.now) (g.S.Source.left c.read_content.new.input) (g.S.Source.ended c.read_content.new.input) (g.K.Sink.taken c.args.output.now) (g.K.Sink.taken c.read_content.new.output)) (sym c.of_halt-in-Halt-read_content.ensures)
+    (cut_halted g.R.Replies.Answers g.R.Replies.Waits g.R.Replies.Fails g.R.Replies.is_over c.args.replies.now c.requests.replies c.begin.new.self c.read_content.new.replies c.cut-in-Halt-read_content.new.self _ _ _ _ _ _ _ _ _ c.requests.buffer c.next_head.new.buffer c.in-Head.head _ _ c.in-Halt-read_content.halt c.requests.invariant.runs t n c.cut-in-Halt-read_content.ensures c.in-Halt-read_content.ensures.content)
+
+pub returns-in-Last-clause-said : goal.returns-in-Last-clause-said
+returns-in-Last-clause-said g c =
+    let t : TookHead (g.S.Source.left c.requests.input) (g.S.Source.left c.next_head.new.input) c.requests.buffer c.next_head.new.buffer c.in-Head.head = c.in-Head.ensures.head in
+    let n : Wants g.R.Replies.Waits c.requests.replies c.begin.new.self c.in-Head.head (g.K.Sink.taken c.requests.output) (g.K.Sink.taken c.begin.new.output) [] = wanted g.R.Replies.Answers g.R.Replies.Waits (g.R.Replies.Fails c.requests.replies c.begin.new.self) c.requests.replies c.begin.new.self c.in-Head.head (g.K.Sink.taken c.requests.output) (g.K.Sink.taken c.begin.new.output) (subst (λ (x : Begun). Begins (g.R.Replies.Answers c.requests.replies c.begin.new.self) (g.R.Replies.Waits c.requests.replies c.begin.new.self c.in-Head.head []) (g.R.Replies.Fails c.requests.replies c.begin.new.self) c.in-Head.head (g.K.Sink.taken c.requests.output) (g.K.Sink.taken c.begin.new.output) (Ok x)) c.in-Ok-Wanted.field-0-is c.in-Ok-Wanted.ensures.said) in
+    let l = c.in-Last.ensures.content in
+    (inr (inl (denied_whole g.R.Replies.Answers g.R.Replies.Waits g.R.Replies.Fails g.R.Replies.is_over c.args.replies.now c.requests.replies c.begin.new.self c.read_content.new.replies _ _ _ _ _ _ _ _ c.requests.buffer c.next_head.new.buffer c.read_content.new.buffer c.in-Head.head l.0 c.requests.invariant.runs t n l.1 l.2)), c.in-Last.ensures.over)
+
+pub returns-in-Unsaid-clause-said : goal.returns-in-Unsaid-clause-said
+returns-in-Unsaid-clause-said g c =
+    let t : TookHead (g.S.Source.left c.requests.input) (g.S.Source.left c.next_head.new.input) c.requests.buffer c.next_head.new.buffer c.in-Head.head = c.in-Head.ensures.head in
+    let n : Wants g.R.Replies.Waits c.requests.replies c.begin.new.self c.in-Head.head (g.K.Sink.taken c.requests.output) (g.K.Sink.taken c.begin.new.output) [] = wanted g.R.Replies.Answers g.R.Replies.Waits (g.R.Replies.Fails c.requests.replies c.begin.new.self) c.requests.replies c.begin.new.self c.in-Head.head (g.K.Sink.taken c.requests.output) (g.K.Sink.taken c.begin.new.output) (subst (λ (x : Begun). Begins (g.R.Replies.Answers c.requests.replies c.begin.new.self) (g.R.Replies.Waits c.requests.replies c.begin.new.self c.in-Head.head []) (g.R.Replies.Fails c.requests.replies c.begin.new.self) c.in-Head.head (g.K.Sink.taken c.requests.output) (g.K.Sink.taken c.begin.new.output) (Ok x)) c.in-Ok-Wanted.field-0-is c.in-Ok-Wanted.ensures.said) in
+    let l = c.in-Unsaid.ensures.content in
+    subst (λ (e : End). EndsAs g.R.Replies.Answers g.R.Replies.Fails g.R.Replies.is_over e c.args.replies.now c.read_content.new.replies (g.S.Source.left c.args.input.now) (g.S.Source.left c.read_content.new.input) (g.S.Source.ended c.read_content.new.input) (g.K.Sink.taken c.args.output.now) (g.K.Sink.taken c.read_content.new.output)) (sym c.of_unsaid-in-Unsaid.ensures)
+    (denied_part g.R.Replies.Answers g.R.Replies.Waits g.R.Replies.Fails g.R.Replies.is_over c.args.replies.now c.requests.replies c.begin.new.self c.read_content.new.replies _ _ _ _ _ _ _ _ _ c.requests.buffer c.next_head.new.buffer c.read_content.new.buffer c.in-Head.head l.0 c.in-Unsaid.unsaid c.requests.invariant.runs t n l.1 l.2)
 
 pub returns-in-Err-whole-clause-said : goal.returns-in-Err-whole-clause-said
-returns-in-Err-whole-clause-said g c = λ says stands.
-    let r = c.requests.invariant.runs says stands in
+returns-in-Err-whole-clause-said g c =
     let t : TookHead (g.S.Source.left c.requests.input) (g.S.Source.left c.next_head.new.input) c.requests.buffer c.next_head.new.buffer c.in-Head.head = c.in-Head.ensures.head in
-    let n = wanted (g.R.Replies.Stands c.begin.new.self) (g.R.Replies.Waits c.begin.new.self c.in-Head.head) r.next c.in-Head.head _ _
-    (subst (λ (x : Begun). Begins r.next (g.R.Replies.Stands c.begin.new.self) (g.R.Replies.Waits c.begin.new.self c.in-Head.head) c.in-Head.head (g.K.Sink.taken c.requests.output) (g.K.Sink.taken c.begin.new.output) (Ok x)) c.in-Ok-Wanted.field-0-is (c.in-Ok-Wanted.ensures.said r.next r.stands)) in
-    let k = took_both _ _ _ c.requests.buffer c.next_head.new.buffer c.read_content.new.buffer c.in-Head.head c.in-Whole.content.items t c.in-Whole.ensures.content in
-    subst (λ (e : End). EndsAs e says (g.S.Source.left c.args.input.now) (g.S.Source.left c.read_content.new.input) (g.S.Source.ended c.read_content.new.input) (g.K.Sink.taken c.args.output.now) (g.K.Sink.taken c.whole.new.output)) (sym c.of_unsaid-in-Err-whole.ensures)
-    (whole_unsaid _ (g.R.Replies.Waits c.begin.new.self c.in-Head.head) (g.R.Replies.Stands c.whole.new.self) says _ _ _ _ _ _ _ _ c.requests.buffer c.read_content.new.buffer c.in-Head.head c.in-Whole.content.items c.in-Err-whole.unsaid r k n
-    (c.in-Err-whole.ensures.said n.next n.waits))
+    let n : Wants g.R.Replies.Waits c.requests.replies c.begin.new.self c.in-Head.head (g.K.Sink.taken c.requests.output) (g.K.Sink.taken c.begin.new.output) [] = wanted g.R.Replies.Answers g.R.Replies.Waits (g.R.Replies.Fails c.requests.replies c.begin.new.self) c.requests.replies c.begin.new.self c.in-Head.head (g.K.Sink.taken c.requests.output) (g.K.Sink.taken c.begin.new.output) (subst (λ (x : Begun). Begins (g.R.Replies.Answers c.requests.replies c.begin.new.self) (g.R.Replies.Waits c.requests.replies c.begin.new.self c.in-Head.head []) (g.R.Replies.Fails c.requests.replies c.begin.new.self) c.in-Head.head (g.K.Sink.taken c.requests.output) (g.K.Sink.taken c.begin.new.output) (Ok x)) c.in-Ok-Wanted.field-0-is c.in-Ok-Wanted.ensures.said) in
+    let content : List ℕ = c.in-Whole.ensures.content.0 in
+    let k = took_both _ _ _ c.requests.buffer c.next_head.new.buffer c.read_content.new.buffer c.in-Head.head content t c.in-Whole.ensures.content.1 in
+    let o : Wants g.R.Replies.Waits c.requests.replies c.read_content.new.replies c.in-Head.head (g.K.Sink.taken c.requests.output) (g.K.Sink.taken c.read_content.new.output) content = handed g.R.Replies.Waits c.requests.replies c.begin.new.self c.read_content.new.replies c.in-Head.head (g.K.Sink.taken c.requests.output) (g.K.Sink.taken c.begin.new.output) (g.K.Sink.taken c.read_content.new.output) content n c.in-Whole.ensures.content.2 in
+    subst (λ (e : End). EndsAs g.R.Replies.Answers g.R.Replies.Fails g.R.Replies.is_over e c.args.replies.now c.whole.new.self (g.S.Source.left c.args.input.now) (g.S.Source.left c.read_content.new.input) (g.S.Source.ended c.read_content.new.input) (g.K.Sink.taken c.args.output.now) (g.K.Sink.taken c.whole.new.output)) (sym c.of_unsaid-in-Err-whole.ensures)
+    (whole_unsaid g.R.Replies.Answers g.R.Replies.Waits g.R.Replies.Fails g.R.Replies.is_over c.args.replies.now c.requests.replies c.read_content.new.replies c.whole.new.self _ _ _ _ _ _ _ _ c.requests.buffer c.read_content.new.buffer c.in-Head.head content c.in-Err-whole.unsaid c.requests.invariant.runs k o (c.in-Err-whole.ensures.said c.requests.replies content o.said o.waits))
 
-pub returns-then-closes-clause-said : goal.returns-then-closes-clause-said
-returns-then-closes-clause-said g c = λ says stands.
-    let r = c.requests.invariant.runs says stands in
+pub returns-in-Ok-Last-whole-clause-said : goal.returns-in-Ok-Last-whole-clause-said
+returns-in-Ok-Last-whole-clause-said g c =
     let t : TookHead (g.S.Source.left c.requests.input) (g.S.Source.left c.next_head.new.input) c.requests.buffer c.next_head.new.buffer c.in-Head.head = c.in-Head.ensures.head in
-    let n = wanted (g.R.Replies.Stands c.begin.new.self) (g.R.Replies.Waits c.begin.new.self c.in-Head.head) r.next c.in-Head.head _ _
-    (subst (λ (x : Begun). Begins r.next (g.R.Replies.Stands c.begin.new.self) (g.R.Replies.Waits c.begin.new.self c.in-Head.head) c.in-Head.head (g.K.Sink.taken c.requests.output) (g.K.Sink.taken c.begin.new.output) (Ok x)) c.in-Ok-Wanted.field-0-is (c.in-Ok-Wanted.ensures.said r.next r.stands)) in
-    let k = took_both _ _ _ c.requests.buffer c.next_head.new.buffer c.read_content.new.buffer c.in-Head.head c.in-Whole.content.items t c.in-Whole.ensures.content in
-    whole_closed _ (g.R.Replies.Waits c.begin.new.self c.in-Head.head) (g.R.Replies.Stands c.whole.new.self) says _ _ _ _ _ _ _ (g.S.Source.ended c.read_content.new.input) c.requests.buffer c.read_content.new.buffer c.in-Head.head c.in-Whole.content.items r k n c.if-closes.true
-    (c.in_default.ensures.said n.next n.waits)
+    let n : Wants g.R.Replies.Waits c.requests.replies c.begin.new.self c.in-Head.head (g.K.Sink.taken c.requests.output) (g.K.Sink.taken c.begin.new.output) [] = wanted g.R.Replies.Answers g.R.Replies.Waits (g.R.Replies.Fails c.requests.replies c.begin.new.self) c.requests.replies c.begin.new.self c.in-Head.head (g.K.Sink.taken c.requests.output) (g.K.Sink.taken c.begin.new.output) (subst (λ (x : Begun). Begins (g.R.Replies.Answers c.requests.replies c.begin.new.self) (g.R.Replies.Waits c.requests.replies c.begin.new.self c.in-Head.head []) (g.R.Replies.Fails c.requests.replies c.begin.new.self) c.in-Head.head (g.K.Sink.taken c.requests.output) (g.K.Sink.taken c.begin.new.output) (Ok x)) c.in-Ok-Wanted.field-0-is c.in-Ok-Wanted.ensures.said) in
+    let content : List ℕ = c.in-Whole.ensures.content.0 in
+    let k = took_both _ _ _ c.requests.buffer c.next_head.new.buffer c.read_content.new.buffer c.in-Head.head content t c.in-Whole.ensures.content.1 in
+    let o : Wants g.R.Replies.Waits c.requests.replies c.read_content.new.replies c.in-Head.head (g.K.Sink.taken c.requests.output) (g.K.Sink.taken c.read_content.new.output) content = handed g.R.Replies.Waits c.requests.replies c.begin.new.self c.read_content.new.replies c.in-Head.head (g.K.Sink.taken c.requests.output) (g.K.Sink.taken c.begin.new.output) (g.K.Sink.taken c.read_content.new.output) content n c.in-Whole.ensures.content.2 in
+    let h = subst (λ (x : Fed). Finishes (g.R.Replies.Answers c.requests.replies c.whole.new.self (stream.whole c.in-Head.head content)) (g.R.Replies.Fails c.read_content.new.replies c.whole.new.self) c.in-Head.head.closes o.said (g.K.Sink.taken c.read_content.new.output) (g.K.Sink.taken c.whole.new.output) (Ok x)) c.in-Ok-Last-whole.field-0-is (c.in-Ok-Last-whole.ensures.said c.requests.replies content o.said o.waits) in
+    whole_last g.R.Replies.Answers g.R.Replies.Waits g.R.Replies.is_over (g.R.Replies.Fails c.read_content.new.replies c.whole.new.self) c.args.replies.now c.requests.replies c.read_content.new.replies c.whole.new.self _ _ _ _ _ _ _ c.requests.buffer c.read_content.new.buffer c.in-Head.head content c.requests.invariant.runs k o h
+    (subst (λ (x : Fed). EndsJustAtLast (g.R.Replies.is_over c.whole.new.self) x) c.in-Ok-Last-whole.field-0-is c.in-Ok-Last-whole.ensures.over)
 
 pub requests-smaller : goal.requests-smaller
 requests-smaller g c =
     let t : TookHead (g.S.Source.left c.requests.input) (g.S.Source.left c.next_head.new.input) c.requests.buffer c.next_head.new.buffer c.in-Head.head = c.in-Head.ensures.head in
-    let m : Moves (g.S.Source.left c.next_head.new.input) (g.S.Source.left c.read_content.new.input) c.next_head.new.buffer c.read_content.new.buffer c.in-Whole.ensures.content.0 = c.in-Whole.ensures.content.1 in
-    smaller c.requests.buffer c.next_head.new.buffer c.read_content.new.buffer t.moves.came t.taken m.came c.in-Whole.ensures.content.0 t.moves.parts t.moves.count t.moves.within t.some m.parts m.count m.within
+    let m : Moves (g.S.Source.left c.next_head.new.input) (g.S.Source.left c.read_content.new.input) c.next_head.new.buffer c.read_content.new.buffer c.in-Whole.ensures.content.1.0 = c.in-Whole.ensures.content.1.1 in
+    smaller c.requests.buffer c.next_head.new.buffer c.read_content.new.buffer t.moves.came t.taken m.came c.in-Whole.ensures.content.1.0 t.moves.parts t.moves.count t.moves.within t.some m.parts m.count m.within
 
 pub requests-preserved : goal.requests-preserved
 requests-preserved g c =
     let t : TookHead (g.S.Source.left c.requests.input) (g.S.Source.left c.next_head.new.input) c.requests.buffer c.next_head.new.buffer c.in-Head.head = c.in-Head.ensures.head in
-    let k = took_both _ _ _ c.requests.buffer c.next_head.new.buffer c.read_content.new.buffer c.in-Head.head c.in-Whole.content.items t c.in-Whole.ensures.content in
+    let n : Wants g.R.Replies.Waits c.requests.replies c.begin.new.self c.in-Head.head (g.K.Sink.taken c.requests.output) (g.K.Sink.taken c.begin.new.output) [] = wanted g.R.Replies.Answers g.R.Replies.Waits (g.R.Replies.Fails c.requests.replies c.begin.new.self) c.requests.replies c.begin.new.self c.in-Head.head (g.K.Sink.taken c.requests.output) (g.K.Sink.taken c.begin.new.output) (subst (λ (x : Begun). Begins (g.R.Replies.Answers c.requests.replies c.begin.new.self) (g.R.Replies.Waits c.requests.replies c.begin.new.self c.in-Head.head []) (g.R.Replies.Fails c.requests.replies c.begin.new.self) c.in-Head.head (g.K.Sink.taken c.requests.output) (g.K.Sink.taken c.begin.new.output) (Ok x)) c.in-Ok-Wanted.field-0-is c.in-Ok-Wanted.ensures.said) in
+    let content : List ℕ = c.in-Whole.ensures.content.0 in
+    let k = took_both _ _ _ c.requests.buffer c.next_head.new.buffer c.read_content.new.buffer c.in-Head.head content t c.in-Whole.ensures.content.1 in
+    let o : Wants g.R.Replies.Waits c.requests.replies c.read_content.new.replies c.in-Head.head (g.K.Sink.taken c.requests.output) (g.K.Sink.taken c.read_content.new.output) content = handed g.R.Replies.Waits c.requests.replies c.begin.new.self c.read_content.new.replies c.in-Head.head (g.K.Sink.taken c.requests.output) (g.K.Sink.taken c.begin.new.output) (g.K.Sink.taken c.read_content.new.output) content n c.in-Whole.ensures.content.2 in
+    let h = subst (λ (x : Fed). Finishes (g.R.Replies.Answers c.requests.replies c.whole.new.self (stream.whole c.in-Head.head content)) (g.R.Replies.Fails c.read_content.new.replies c.whole.new.self) c.in-Head.head.closes o.said (g.K.Sink.taken c.read_content.new.output) (g.K.Sink.taken c.whole.new.output) (Ok x)) c.in-Ok-Taken.field-0-is (c.in-Ok-Taken.ensures.said c.requests.replies content o.said o.waits) in
     record {
-      runs = λ says stands.
-          let r = c.requests.invariant.runs says stands in
-          let n = wanted (g.R.Replies.Stands c.begin.new.self) (g.R.Replies.Waits c.begin.new.self c.in-Head.head) r.next c.in-Head.head _ _
-          (subst (λ (x : Begun). Begins r.next (g.R.Replies.Stands c.begin.new.self) (g.R.Replies.Waits c.begin.new.self c.in-Head.head) c.in-Head.head (g.K.Sink.taken c.requests.output) (g.K.Sink.taken c.begin.new.output) (Ok x)) c.in-Ok-Wanted.field-0-is (c.in-Ok-Wanted.ensures.said r.next r.stands)) in
-          whole_answered _ (g.R.Replies.Waits c.begin.new.self c.in-Head.head) (g.R.Replies.Stands c.whole.new.self) says _ _ _ _ _ _ _ c.requests.buffer c.read_content.new.buffer c.in-Head.head c.in-Whole.content.items r k n c.if-closes.false
-          (c.in_default.ensures.said n.next n.waits);
+      runs = whole_answered g.R.Replies.Answers g.R.Replies.Waits (g.R.Replies.Fails c.read_content.new.replies c.whole.new.self) g.R.Replies.is_over c.args.replies.now c.requests.replies c.read_content.new.replies c.whole.new.self _ _ _ _ _ _ _ c.requests.buffer c.read_content.new.buffer c.in-Head.head content c.requests.invariant.runs k o h.0 h.1
+          (subst (λ (x : Fed). EndsJustAtLast (g.R.Replies.is_over c.whole.new.self) x) c.in-Ok-Taken.field-0-is c.in-Ok-Taken.ensures.over);
       reads = omega (arith, c.requests.invariant.reads, c.next_head.ensures.later, c.read_content.ensures.later);
-      writes = omega (arith, c.requests.invariant.writes, c.in-Ok-Wanted.ensures.cause, c.in_default.ensures.cause);
+      writes = omega (arith, c.requests.invariant.writes, c.in-Ok-Wanted.ensures.cause, c.in-Whole.ensures.cause, c.in-Ok-Taken.ensures.cause);
     }

@@ -1,13 +1,11 @@
--- What was written is what is said to the requests that were taken.
+-- The requests that were taken were answered with what was written.
 use Rattle.std.proofs.Common.{◌≤◌, ◌-◌, ◌+◌, ◌*◌, ◌^◌, length}
-use Rattle.http_front.specs.Replying.{Says}
 use Rattle.http_front.proofs.Runs.{Runs}
 use Rattle.http_front.proofs.session.run_session.Given as goal
 
 abbrev pub invariant-requests : goal.invariant-requests
 invariant-requests g l = record {
-  runs : (says : Says) → g.R.Replies.Stands l.initial.replies says
-      → Runs (g.R.Replies.Stands l.replies) says (g.S.Source.left l.initial.input) (g.S.Source.left l.input) (g.K.Sink.taken l.initial.output) (g.K.Sink.taken l.output) l.buffer;
+  runs : Runs g.R.Replies.Answers g.R.Replies.is_over l.initial.replies l.replies (g.S.Source.left l.initial.input) (g.S.Source.left l.input) (g.K.Sink.taken l.initial.output) (g.K.Sink.taken l.output) l.buffer;
   reads : g.S.Source.faults l.initial.input ≤ g.S.Source.faults l.input;
   writes : g.K.Sink.faults l.initial.output ≤ g.K.Sink.faults l.output;
 }

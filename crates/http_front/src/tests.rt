@@ -1,0 +1,191 @@
+//! Sessions over a source and a sink in memory, with replies that answer each request by a line.
+
+ghost use Rattle.std.specs.Prelude.{◌<◌, List, ℕ, OnOk, IfOk};
+ghost use Rattle.http_front.specs.Replying.{IsAnswered, Finishes, IsOverIfLast, HasSinkCause};
+
+use crate::{Begun, End, Fed, Replies, Unsaid, run_session};
+use http_heads::{BodyErr, Head, HeadErr, Method};
+use nx_io::{Failed, MemSink, MemSource, Sink, put_all};
+use std::alloc::Global;
+use std::process::Abort;
+use std::test::Fail;
+
+static PUT: &str =
+    "PUT /repository/files/a HTTP/1.1\r\nHost: h\r\nContent-Type: text/plain\r\nContent-Length: 5\r\n\r\nGET /";
+
+static CHUNKED: &str =
+    "PUT /repository/files/a HTTP/1.1\r\nTransfer-Encoding: chunked\r\n\r\n2;x\r\nab\r\n1\r\nc\r\n0\r\nT: t\r\n\r\n";
+
+static GET: &str = "GET /repository/files/a HTTP/1.1\r\n\r\n";
+
+static HEAD: &str = "\r\nHEAD /repository/files/a HTTP/1.1\r\n\r\n";
+
+static DELETE: &str = "DELETE /repository/files/a HTTP/1.1\r\n\r\n";
+
+static LAST: &str = "GET /repository/files/a HTTP/1.1\r\nConnection: close\r\n\r\n";
+
+static BEHIND: &str = "GET /repository/files/behind HTTP/1.1\r\n\r\n";
+
+/// Answers each request with a line, and counts the bytes of all contents.
+#[derive(Drop)]
+struct Lines {
+    length: u64,
+}
+
+/// Writes a line.
+fn say<K: Sink>(output: &mut K, line: &[u8]) -> Result<(), Unsaid>
+    ensures said { (said : List ℕ) → IsAnswered (λ bytes. Unit {0}) (Unit {0}) said (K.taken output.old) (K.taken output.new) result }
+    ensures over { OnOk result (Unit {0}) }
+    ensures cause { HasSinkCause (K.faults output.old) (K.faults output.new) result }
+{
+    match put_all(output, line) {
+        Ok(()) => Ok(()),
+        Err(Failed) => Err(Unsaid::WriteFault),
+    }
+}
+
+/// Writes the line of a request, which closes the session or not.
+fn finish<K: Sink>(closes: bool, output: &mut K, line: &[u8]) -> Result<Fed, Unsaid>
+    ensures said { (said : List ℕ) → Finishes (λ bytes. Unit {0}) (Unit {0}) closes said (K.taken output.old) (K.taken output.new) result }
+    ensures over { IfOk result (IsOverIfLast (Unit {0})) }
+    ensures cause { HasSinkCause (K.faults output.old) (K.faults output.new) result }
+{
+    if let Err(unsaid) = say(output, line) {
+        return Err(unsaid);
+    }
+    if closes {
+        return Ok(Fed::Last);
+    }
+    Ok(Fed::Taken)
+}
+
+impl Replies for Lines {
+    ghost Answers = { λ from to item bytes. Unit {0} };
+
+    ghost Waits = { λ from to head content said. Unit {0} };
+
+    ghost Fails = { λ from to. Unit {0} };
+
+    ghost IsOver = { λ at. Unit {0} };
+
+    fn refused<K: Sink>(
+        &mut self,
+        why: HeadErr,
+        _bare: bool,
+        output: &mut K,
+    ) -> Result<(), Unsaid> {
+        match why {
+            HeadErr::HeadTooLarge => say(output, b"too large\n"),
+            HeadErr::TooManyHeaders => say(output, b"too many\n"),
+            _ => say(output, b"refused\n"),
+        }
+    }
+
+    fn begin<K: Sink>(&mut self, _head: &Head, _output: &mut K) -> Result<Begun, Unsaid> {
+        Ok(Begun::Wanted)
+    }
+
+    fn part<K: Sink>(&mut self, _head: &Head, part: &[u8], _output: &mut K) -> Result<Fed, Unsaid> {
+        self.length = self.length.saturating_add(part.len() as u64);
+        Ok(Fed::Taken)
+    }
+
+    fn whole<K: Sink>(&mut self, head: Head, output: &mut K) -> Result<Fed, Unsaid> {
+        match head.method {
+            Method::Get => finish(head.closes, output, b"get\n"),
+            Method::Head => finish(head.closes, output, b"head\n"),
+            Method::Put => finish(head.closes, output, b"put\n"),
+            Method::Delete => finish(head.closes, output, b"delete\n"),
+        }
+    }
+
+    fn stopped<K: Sink>(
+        &mut self,
+        _head: &Head,
+        _why: BodyErr,
+        output: &mut K,
+    ) -> Result<(), Unsaid> {
+        say(output, b"stopped\n")
+    }
+
+    fn cut(&mut self, _head: &Head) {}
+}
+
+/// Whether a session over these bytes, of which at most `piece` come at once, ends so, with these lines and so much content.
+fn runs_to(alloc: Global, bytes: &str, piece: usize, want: (End, &str, u64)) -> Result<bool, Fail>
+    requires { 0 < piece }
+{
+    let mut replies = Lines { length: 0 };
+    let input = Vec::from_slice(alloc, bytes.as_bytes())?;
+    let mut input = MemSource::new(input, piece, Vec::new(alloc));
+    let mut output = MemSink::new(alloc, 1024, Vec::new(alloc))?;
+    let end = run_session(alloc, &mut replies, &mut input, &mut output);
+    Ok(end == want.0 && output.bytes() == want.1.as_bytes() && replies.length == want.2)
+}
+
+/// A head of one field whose value has so many bytes.
+fn head_with_field(alloc: Global, count: usize) -> Result<String, Fail> {
+    let mut text = String::new(alloc);
+    text.push_str("GET /repository/files/a HTTP/1.1\r\nX: ")?;
+    for _ in 0..count {
+        text.push('a')?;
+    }
+    text.push_str("\r\n\r\n")?;
+    Ok(text)
+}
+
+/// A head of so many fields.
+fn head_of_fields(alloc: Global, count: usize) -> Result<String, Fail> {
+    let mut text = String::new(alloc);
+    text.push_str("GET /repository/files/a HTTP/1.1\r\n")?;
+    for _ in 0..count {
+        text.push_str("X: a\r\n")?;
+    }
+    text.push_str("\r\n")?;
+    Ok(text)
+}
+
+#[test]
+fn pieces(rt: HostRuntime) -> Result<(), Fail> {
+    let alloc = rt.alloc();
+    let mut pipeline = String::new(alloc);
+    for request in [PUT, CHUNKED, GET, HEAD, DELETE, LAST, BEHIND] {
+        pipeline.push_str(request)?;
+    }
+    let want = (End::Closed, "put\nput\nget\nhead\ndelete\nget\n", 8);
+    for cut in 0..pipeline.len() {
+        assert!(rt;
+            runs_to(alloc, &pipeline, cut + 1, want)?,
+            "pieces of {cut} + 1"
+        );
+    }
+    Ok(())
+}
+
+#[test]
+fn limits(rt: HostRuntime) -> Result<(), Fail> {
+    let alloc = rt.alloc();
+    // The line, the name and the ends around the value are 41 bytes.
+    let longest = head_with_field(alloc, 16_384 - 41)?;
+    assert!(rt; runs_to(alloc, &longest, 1000, (End::Clean, "get\n", 0))?);
+    let longer = head_with_field(alloc, 16_385 - 41)?;
+    assert!(rt; runs_to(alloc, &longer, 1000, (End::Closed, "too large\n", 0))?);
+    let most = head_of_fields(alloc, 64)?;
+    assert!(rt; runs_to(alloc, &most, 1000, (End::Clean, "get\n", 0))?);
+    let more = head_of_fields(alloc, 65)?;
+    assert!(rt; runs_to(alloc, &more, 1000, (End::Closed, "too many\n", 0))?);
+    Ok(())
+}
+
+#[test]
+fn cuts(rt: HostRuntime) -> Result<(), Fail> {
+    let alloc = rt.alloc();
+    assert!(rt; runs_to(alloc, "", 9, (End::Clean, "", 0))?);
+    assert!(rt; runs_to(alloc, "GET /", 9, (End::Cut, "", 0))?);
+    let cut = "PUT /repository/files/a HTTP/1.1\r\nContent-Length: 5\r\n\r\nabc";
+    assert!(rt; runs_to(alloc, cut, 9, (End::Cut, "", 3))?);
+    let bad =
+        "PUT /repository/files/a HTTP/1.1\r\nTransfer-Encoding: chunked\r\n\r\n2\r\nab\r\nx\r\n";
+    assert!(rt; runs_to(alloc, bad, 9, (End::Closed, "stopped\n", 2))?);
+    Ok(())
+}
