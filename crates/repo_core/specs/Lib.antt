@@ -13,3 +13,4 @@ pub mod Fresh
 pub mod Got
 pub mod Looking
 pub mod Begun
+pub mod Stays
