@@ -8,7 +8,6 @@ pub mod Standing
 pub mod Ends
 pub mod Marks
 pub mod Puts
-pub mod Hosted
 pub mod Fresh
 pub mod Got
 pub mod Looking
