@@ -84,6 +84,8 @@ impl<W: Writer> Upload<W> {
         requires open { IsSome self.old.target }
         ensures ready { IfOk result (λ ready. (bytes : List ℕ) → HasTaken W.told W.written self.old bytes → IsReady W.told W.content ready bytes) }
         ensures target { IfOk result (λ ready. self.old.target ≡ Some (record { begin = ready.begin; store = ready.store })) }
+        // At most the limit.
+        ensures small { IfOk result (λ ready. ready.size ≤ 1073741824) }
         ensures closed { OnOk result (self.new.target ≡ None) }
         ensures dead { IsErrOf result refused.Dead ↔ (self.old.dead ≡ true) }
         ensures unchanged { IsErrOf result refused.Dead → self.new ≡ self.old }

@@ -9,3 +9,4 @@ pub mod Declared
 pub mod Sound
 pub mod Parted
 pub mod Model
+pub mod AllHosted

@@ -1,5 +1,5 @@
 -- What every configuration keeps.
-use Rattle.std.proofs.Common.{◌≡◌, ◌≤◌, ◌&&◌, refl, subst, ℕ, List, [], ◌∷◌, Bool, true, false, cond, fold, Option, Some, None, Result, Ok, Err, unwrap_or, arith, codes}
+use Rattle.std.proofs.Common.{◌≡◌, IsSome, IsSomeAnd, ◌≤◌, ◌&&◌, refl, subst, ℕ, List, [], ◌∷◌, Bool, true, false, cond, fold, Option, Some, None, Result, Ok, Err, unwrap_or, arith, codes}
 use Rattle.std.specs.declared.cmp.Ordering.TheVariants.{Less, Equal, Greater}
 use Rattle.std.specs.List.{AllByRecursion}
 use Rattle.std.specs.Map.{lookup}
@@ -15,11 +15,15 @@ use Rattle.sha1.specs.Sha1.{sha1}
 use Rattle.nx_base.specs.Texts.{name_cmp, same_name}
 use Rattle.repo_config.specs.declared.config_err.ConfigErr.{ConfigErr}
 use Rattle.repo_config.specs.declared.form.Subject.TheVariants.{OfStore, OfRepo}
+use Rattle.repo_config.specs.declared.form.PartKind.{PartKind}
+use Rattle.repo_config.specs.declared.form.PartKind.TheVariants.{FileStore, HostedRepo}
+use Rattle.repo_model.specs.Config.{is_hosted}
 use Rattle.repo_config.specs.Values.{is_decimal, is_between, number_said}
-use Rattle.repo_config.specs.Settings.{Settings, settings, repository, declared, by_name, text_at}
+use Rattle.repo_config.specs.Settings.{Settings, settings, repository, repo_kind, kind_of, declared, by_name, text_at}
 use Rattle.repo_config.specs.Refusals.{refusal, test_keys, test_missing, test_stores}
 use Rattle.repo_config.specs.Reading.{Configures, config_from, unless}
 use Rattle.repo_config.specs.Laws.{HasStore, IsSound}
+use Rattle.repo_config.specs.Hosted.{IsUsable, AllUsable}
 use Rattle.repo_config.proofs.Firsts.{none_left, none_right}
 use Rattle.repo_config.proofs.Passed.{names_few, stores_good}
 use Rattle.repo_config.proofs.Declared.{all_named}
@@ -67,6 +71,31 @@ by_tests false b n h = (omega arith, omega arith)
 by_text : (o : Option (List ℕ)) → InRange (unwrap_or (option_and_then (number_said 1 1000000) o) 100000)
 by_text None = (omega arith, omega arith)
 by_text (Some value) = by_tests (is_decimal value) (is_between 1 1000000 (digits_value 10 value)) (digits_value 10 value) (between (digits_value 10 value))
+
+-- of pairs of which nothing is refused, no key is
+pub keys_pass : (pairs : Entries) → refusal pairs ≡ None → test_keys pairs ≡ None
+keys_pass pairs none = none_left (test_keys pairs) _ none
+
+all_so : {A : Type 0} (P Q : A → Type 0) → ((a : A) → P a → Q a) → (xs : List A) → AllByRecursion P xs → AllByRecursion Q xs
+all_so P Q f [] all = tt
+all_so P Q f (x ∷ xs) all = (f x all.0, all_so P Q f xs all.1)
+
+is_there : (P : List ℕ → Type 0) (o : Option (List ℕ)) → IsSomeAnd o P → IsSome o
+is_there P None is = absurd is
+is_there P (Some x) is = refl
+
+each_kind : (kind : PartKind) → is_hosted (repo_kind kind) ≡ true
+each_kind FileStore = refl
+each_kind HostedRepo = refl
+
+-- then each repository is hosted and has a store
+pub all_usable : (pairs : Entries) → refusal pairs ≡ None → AllUsable (by_name (repository pairs) (declared OfRepo pairs))
+all_usable pairs none =
+    let stores = none_right (test_missing pairs) (test_stores pairs) (none_right (test_keys pairs) _ none) in
+    let P : List ℕ → Type 0 = λ name. HasStore (settings [] pairs) (repository pairs name) in
+    let Q : List ℕ → Type 0 = λ name. IsUsable (repository pairs name) in
+    all_inserted IsUsable (repository pairs) (declared OfRepo pairs) [] tt
+    (all_so P Q (λ name has. record { stored = is_there _ (repository pairs name).store has; hosted = each_kind (kind_of OfRepo pairs name) }) (declared OfRepo pairs) (all_named pairs stores))
 
 sound : (digest : List ℕ) (pairs : Entries) → refusal pairs ≡ None → IsSound (settings digest pairs)
 sound digest pairs none =

@@ -10,3 +10,4 @@ pub mod Found
 pub mod Told
 pub mod Laws
 pub mod Model
+pub mod Hosted

@@ -6,7 +6,7 @@ ghost use Rattle.repo_config.specs.declared.form.Subject.TheVariants.{OfStore, O
 ghost use Rattle.repo_config.specs.Lists.{may_name};
 ghost use Rattle.repo_config.specs.Settings as set;
 ghost use Rattle.repo_config.specs.Settings.{declared, by_name};
-ghost use Rattle.repo_config.specs.Refusals.{test_keys};
+ghost use Rattle.repo_config.specs.Refusals.{refusal};
 
 use crate::config::Config;
 use crate::form::{PartKind, Subject, Word};
@@ -192,9 +192,9 @@ fn repo_table(
     Ok(repos)
 }
 
-/// The configuration that pairs set whose keys are all accepted.
+/// The configuration that pairs set of which nothing is refused.
 pub(crate) fn configure(alloc: Global, pairs: &Pairs, sha1: [u8; 20]) -> Result<Config, NoMemory>
-    requires { test_keys pairs.now ≡ None }
+    requires { refusal pairs.now ≡ None }
     ensures { IfOk result (λ config. config ≡ set.settings sha1 pairs.now) }
 {
     let Ok(stores) = declared(alloc, Subject::OfStore, pairs) else {

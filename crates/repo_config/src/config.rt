@@ -25,10 +25,13 @@ pub struct Config {
 
 impl Model for Config {
     ghost use Rattle.repo_config.specs.Settings.{Settings};
+    ghost use Rattle.repo_config.specs.Hosted.{AllUsable};
 
     ghost Value = { Settings };
 
     ghost view = { λ c. record { file_stores = c.file_stores.items; stores = c.stores.entries; repos = c.repos.entries; journal = c.journal; sha1 = c.sha1 } };
+
+    ghost invariant = { λ c. AllUsable c.repos.entries };
 }
 
 impl Config {

@@ -1,7 +1,8 @@
-//! Laws of the definitions: the first four functions do nothing, and their contracts are the laws.
+//! Laws of the definitions: the first five functions do nothing, and their contracts are the laws.
 ghost use Rattle.std.specs.Prelude.{◌≡◌};
 ghost use Rattle.repo_config.specs.Laws.{SomeMeaning, NeverBoth, OneConfiguration, OneRefusal, AllSound, StoreKeysParted, RepoKeysParted};
 ghost use Rattle.repo_config.specs.Model.{ReadsRepos, ReadsGroups, WritesToOne};
+ghost use Rattle.repo_config.specs.Hosted.{ReadsHosted};
 
 use crate::config::Config;
 
@@ -32,6 +33,11 @@ pub fn the_step_reads_the_same()
     ensures repos { ReadsRepos }
     ensures groups { ReadsGroups }
     ensures one { WritesToOne }
+{}
+
+/// In every configuration that was read each repository is hosted.
+pub fn all_are_hosted()
+    ensures { ReadsHosted }
 {}
 
 fn needs_send<T: Send>(value: T) -> T

@@ -32,6 +32,7 @@ mod key;
 mod key_text;
 mod laws;
 mod names;
+mod plain;
 mod read;
 mod repo;
 mod settings;
@@ -46,6 +47,7 @@ pub use config_err::ConfigErr;
 pub use group::Group;
 pub use key_text::KeyText;
 pub use laws::{
-    exactly_one_meaning, keys_are_parted, sent, settings_are_sound, the_step_reads_the_same,
+    all_are_hosted, exactly_one_meaning, keys_are_parted, sent, settings_are_sound,
+    the_step_reads_the_same,
 };
 pub use repo::Repo;

@@ -1,4 +1,4 @@
--- A core over devices with nothing in them stands for the repository in which nothing was stored.
+-- A core over a disk without blobs and a table without rows stands for the repository in which nothing was stored.
 use Rattle.std.proofs.Common.{◌≡◌, ℕ, List, Option, Some, None, IsSome, is_some, true, false, refl, sym, ◌∙◌, ap}
 use Rattle.std.specs.Option.{option_map}
 use Rattle.std.specs.FinMap as map
@@ -15,15 +15,13 @@ use Rattle.repo_model.specs.Spots.{spot_cmp, spot_of}
 use Rattle.repo_model.specs.Plain.{config_of}
 use Rattle.disk_model.specs.Disk.{Tree}
 use Rattle.asset_keeper.specs.Table.{Table}
-use Rattle.blob_paths.specs.declared.ending.Ending.TheVariants.{Properties}
 use Rattle.blob_properties.specs.Props.{Props}
 use Rattle.tree_content.specs.Blobs.{IsRef, Reads, props_name}
 use Rattle.tree_content.specs.Contents.{Content}
-use Rattle.tree_content.proofs.Names.{outside}
 use Rattle.tree_content.proofs.Blobs.{none_or_some}
 use Rattle.repo_core.specs.Rows.{content_in, contents_in, rows_in}
 use Rattle.repo_core.specs.Agree.{FilesAgree}
-use Rattle.repo_core.specs.Fresh.{IsEmptyTree, fresh_core}
+use Rattle.repo_core.specs.Fresh.{HasNoBlob, fresh_core}
 use Rattle.repo_core.specs.Standing.{Tracks}
 
 none_there : IsSome {T = List ℕ} None → ⊥
@@ -32,9 +30,9 @@ none_there e = cc
 false_true : false ≡ true → ⊥
 false_true e = cc
 
-module _ (config : Config) (tree : Tree) (empty : IsEmptyTree tree) where
+module _ (config : Config) (tree : Tree) (empty : HasNoBlob tree) where
   absent : (b : BlobRef) → IsRef b → tree (props_name b) ≡ None
-  absent b ref = empty (props_name b) (outside b Properties ref)
+  absent b ref = empty b ref
 
   -- nothing is readable
   unread : (b : BlobRef) (q : Props) → Reads tree b q → ⊥
@@ -64,7 +62,7 @@ module _ (config : Config) (tree : Tree) (empty : IsEmptyTree tree) where
     last_is = λ b q r. absurd (unread b q r);
   }
 
-pub tracks_empty : {D T : Type 0} (tree : D → Tree) (table : T → Option Table) (disk : D) (rows : T) (config : PlainConfig) (callers room : ℕ) → IsEmptyTree (tree disk) → rows_in (table rows) ≡ map.empty
+pub tracks_empty : {D T : Type 0} (tree : D → Tree) (table : T → Option Table) (disk : D) (rows : T) (config : PlainConfig) (callers room : ℕ) → HasNoBlob (tree disk) → rows_in (table rows) ≡ map.empty
     → Tracks tree table (fresh_core disk rows config callers room) empty_state
 tracks_empty tree table disk rows config callers room empty rowless = record {
   broken = refl;

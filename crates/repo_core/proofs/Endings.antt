@@ -16,7 +16,7 @@ use Rattle.repo_model.specs.Stamps.{time_of, next_stamp}
 use Rattle.repo_model.specs.Outcome.{answered}
 use Rattle.repo_model.specs.Storing.{with_asset, new_asset}
 use Rattle.repo_model.specs.Deleting.{discarded}
-use Rattle.repo_model.specs.Step.{Step}
+use Rattle.repo_model.specs.Step.{Step, outcome}
 use Rattle.disk_model.specs.Disk.{Tree, Lists, Same, Rest}
 use Rattle.disk_model.specs.Moments.{During, MayPut, Settled, EachImage}
 use Rattle.disk_model.proofs.Chain.{weaker, and_then}
@@ -38,7 +38,7 @@ use Rattle.repo_core.proofs.Givings.{its_props}
 use Rattle.repo_core.proofs.Replacings.{makes, no_old, its_old, no_trash, crash_created, image_replaced}
 
 module _ {S : Type 0} (content : S → List ℕ) (config : Config) (tree : Tree) (s : State) (store : List ℕ) (upload : Upload) (moment : Moment) (own kept : Own) (staged : Staged S)
-    (rows : map.FinMap key_cmp Asset) (a : Agrees config tree rows own s) (may : MayGo config upload store) (p : IsPrepared content config tree s store upload moment own kept staged)
+    (rows : map.FinMap key_cmp Asset) (a : Agrees config tree rows own s) (may : MayGo config upload.key store) (p : IsPrepared content config tree s store upload moment own kept staged)
     (bytes : List ℕ) (are : AreBytes upload bytes) where
   abbrev blob : BlobRef
   blob = next_ref store s.last moment
@@ -58,8 +58,11 @@ module _ {S : Type 0} (content : S → List ℕ) (config : Config) (tree : Tree)
   later : s.last < blob.stamp
   later = later_stamp s.last moment.now
 
-  pub put_step : Step config s (put_call upload moment) (reply.Stored staged.new.asset) after
-  put_step = (store, p.step ∙ ap (λ (x : Asset). answered after (reply.Stored x)) (sym p.new.asset_is))
+  put_outcome : outcome config s store (put_call upload moment) ≡ answered after (reply.Stored staged.new.asset)
+  put_outcome = p.step ∙ ap (λ (x : Asset). answered after (reply.Stored x)) (sym p.new.asset_is)
+
+  put_step : Step config s (put_call upload moment) (reply.Stored staged.new.asset) after
+  put_step = (store, put_outcome)
 
   -- while the files are shown
   pub crash_one : {D : Type 0} (clock : D → ℕ) (lists : D → ℕ → Lists) (d0 d1 d2 : D) (before : Tree) → Same tree before → Settled tree (lists d0 (clock d0))
@@ -88,13 +91,13 @@ module _ {S : Type 0} (content : S → List ℕ) (config : Config) (tree : Tree)
 
     -- the first content of its key
     pub put_first : (rows_now : map.FinMap key_cmp Asset) → rows_now ≡ map.insert rows key new_one → staged.mark ≡ None
-        → (new : State) × Step config s (put_call upload moment) (reply.Stored staged.new.asset) new × Agrees config mid rows_now (record kept { last = staged.new.asset.blob.stamp }) new
+        → (new : State) × (outcome config s store (put_call upload moment) ≡ answered new (reply.Stored staged.new.asset)) × Agrees config mid rows_now (record kept { last = staged.new.asset.blob.stamp }) new
     put_first rows_now rows_are none =
         let row : row_of s key ≡ None = no_old content config tree s a.files key p.old at staged.mark p.row p.mark none in
         let trash : after.trash ≡ s.trash = ap (λ (o : Option Asset). given o s.trash (λ old. discarded s.trash key old at)) row in
         let own_is = no_trash own kept key at p.old staged.mark none p.trash in (
           after,
-          put_step,
+          put_outcome,
           agrees mid rows_now rows_are (files_created config tree mid s a.files key new_one (props_of upload blob.stamp) made refl later row after.trash trash)
               (ap (λ (o : Own). o.trash) own_is ∙ a.trash_are ∙ sym trash) (ap (λ (o : Own). o.notes) own_is) (ap (λ (o : Own). o.counts) own_is),
         )
@@ -114,7 +117,7 @@ module _ {S : Type 0} (content : S → List ℕ) (config : Config) (tree : Tree)
 
       -- a content in place of another
       pub put_again : (now : Tree) (rows_now : map.FinMap key_cmp Asset) → rows_now ≡ map.insert rows key new_one → now (props_at mark.files.place) ≡ Some (content mark.file) → Rest (props_at mark.files.place) mid now
-          → (new : State) × Step config s (put_call upload moment) (reply.Stored staged.new.asset) new × Agrees config now rows_now (record kept { last = staged.new.asset.blob.stamp }) new
+          → (new : State) × (outcome config s store (put_call upload moment) ≡ answered new (reply.Stored staged.new.asset)) × Agrees config now rows_now (record kept { last = staged.new.asset.blob.stamp }) new
       put_again now rows_now rows_are named others =
           let trash : after.trash ≡ discarded s.trash key old.0 at = ap (λ (o : Option Asset). given o s.trash (λ x. discarded s.trash key x at)) old.1 in
           let marked : Reads now old.0.blob (with_mark old.2.props (codes "Replaced") at) = record {
@@ -126,7 +129,7 @@ module _ {S : Type 0} (content : S → List ℕ) (config : Config) (tree : Tree)
           } in
           let apart_rest : RestOfPlace (place_of old.0.blob) mid now = λ n out not_bytes not_props. others n out (λ e. not_props (e ∙ name_is)) in (
             after,
-            put_step,
+            put_outcome,
             agrees now rows_now rows_are
                 (files_replaced config tree mid s a.files key new_one (props_of upload blob.stamp) made refl later old.0 old.1 now (codes "Replaced") at old.2.props was marked apart_rest after.trash trash)
                 (ap (λ (o : Own). o.trash) old.3 ∙ ap (λ (t : map.FinMap age_cmp Deletion). discarded t key old.0 at) a.trash_are ∙ sym trash) (ap (λ (o : Own). o.notes) old.3) (ap (λ (o : Own). o.counts) old.3),

@@ -20,3 +20,6 @@ pub mod Beginnings
 pub mod Lookings
 pub mod Serving
 pub mod Tellings
+pub mod Stays
+pub mod Breaks
+pub mod Choices

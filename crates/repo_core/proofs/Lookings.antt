@@ -31,7 +31,7 @@ use Rattle.repo_core.specs.declared.own.Own.{Own}
 use Rattle.repo_core.specs.Stores.{homes_of}
 use Rattle.repo_core.specs.Rows.{content_in, contents_in, rows_in}
 use Rattle.repo_core.specs.Agree.{FilesAgree, Agrees}
-use Rattle.repo_core.specs.Hosted.{AllHosted}
+use Rattle.repo_config.specs.Hosted.{AllHosted}
 use Rattle.repo_core.specs.Got.{IsContentOf}
 use Rattle.repo_core.specs.Looking.{IsChangeTo}
 use Rattle.repo_core.proofs.Maps.{set_at, set_beside}

@@ -67,13 +67,13 @@ any_of p q (m ∷ ms) e = by_test (any_of p q ms) (q m) refl
         by_any true there = refl
         by_any false there = there
 
-home_of : (config : Config) (upload : Upload) (store : List ℕ) → MayGo config upload store → homes_of config upload.key.repo store ≡ true
+home_of : (config : Config) (upload : Upload) (store : List ℕ) → MayGo config upload.key store → homes_of config upload.key.repo store ≡ true
 home_of config upload store may =
     let inside : list_any (λ (m : Member). same_name m.store store) (group_of config may.repo).members ≡ true =
     any_of (λ m. same_name m.store store) (λ m. not m.read_only) (group_of config may.repo).members may.takes_it in
     ap (λ (o : Option Repo). given o false (λ r. list_any (λ m. same_name m.store store) (group_of config r).members)) may.declared ∙ inside
 
-module _ (config : Config) (upload : Upload) (store : List ℕ) (blob : BlobRef) (in_store : blob.store ≡ store) (may : MayGo config upload store) (made : NewBlob) (new : IsNewBlob upload blob made) (bytes : List ℕ) (are : AreBytes upload bytes) where
+module _ (config : Config) (upload : Upload) (store : List ℕ) (blob : BlobRef) (in_store : blob.store ≡ store) (may : MayGo config upload.key store) (made : NewBlob) (new : IsNewBlob upload blob made) (bytes : List ℕ) (are : AreBytes upload bytes) where
   abbrev props : Props
   props = props_of upload blob.stamp
 

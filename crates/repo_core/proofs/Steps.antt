@@ -21,7 +21,8 @@ use Rattle.repo_model.specs.History.{refusal_of, content_key}
 use Rattle.repo_core.specs.declared.denial.Denial.{Denial}
 use Rattle.repo_core.specs.declared.denial.Denial.TheVariants as denial
 use Rattle.repo_core.specs.Faults.{refusal_for, refusal_of_fault}
-use Rattle.repo_core.specs.Ends.{Denies}
+use Rattle.repo_core.specs.Standing.{IsSteadyRefusal}
+use Rattle.repo_core.specs.Ends.{Denies, DeniesAt}
 
 -- where nothing is broken, the outcome is that of the call
 pub sound_is : (config : Config) (s : State) (store : List ℕ) (c : Call) → s.broken ≡ None → outcome config s store c ≡ sound_outcome config s store c
@@ -30,6 +31,9 @@ sound_is config s store c sound = ap (λ (b : Option Cause). given b (sound_outc
 
 pub denies_by : (config : Config) (s : State) (store : List ℕ) (c : Call) (why : Denial) → outcome config s store c ≡ refused s (refusal_for why) → Denies config s c why
 denies_by config s store c why e = λ number caller. inl (store, e)
+
+pub denies_at : (config : Config) (s : State) (store : List ℕ) (c : Call) (why : Denial) → outcome config s store c ≡ refused s (refusal_for why) → DeniesAt config s store c why
+denies_at config s store c why e = (denies_by config s store c why e, λ steady. e)
 
 module _ (config : Config) (s : State) (key : Key) (now : ℕ) (sound : s.broken ≡ None) where
   asked : outcome config s [] (call.Delete key now) ≡ on_delete config s key now
@@ -55,6 +59,14 @@ says_fault fault.Memory = refl
 -- a fault before anything was seen
 pub fault_denies : (config : Config) (s : State) (c : Call) (what : Fault) → s.broken ≡ None → Denies config s c (denial.Failed what)
 fault_denies config s c what sound = λ number caller. inr (inl (record { what = what; says = says_fault what; sound = sound; leaves = inl refl }))
+
+unsteady : (what : Fault) → IsSteadyRefusal (refusal_of_fault what) → ⊥
+unsteady fault.Disk steady = steady
+unsteady fault.Keeper steady = steady
+unsteady fault.Memory steady = steady
+
+pub fault_denies_at : (config : Config) (s : State) (store : List ℕ) (c : Call) (what : Fault) → s.broken ≡ None → DeniesAt config s store c (denial.Failed what)
+fault_denies_at config s store c what sound = (fault_denies config s c what sound, λ steady. absurd (unsteady what steady))
 
 -- a content that isn't what its row says
 pub damage_denies : (config : Config) (s : State) (c : Call) (key : Key) (asset : Asset) (found : Option ℕ) → s.broken ≡ None → content_key c ≡ Some key → row_of s key ≡ Some asset

@@ -1,14 +1,16 @@
 -- A repository that nobody has used yet.
-use Rattle.std.specs.Prelude.{◌≡◌, ℕ, List, [], None, replicate}
+use Rattle.std.specs.Prelude.{◌≡◌, ℕ, [], None, replicate}
 use Rattle.std.specs.FinMap as map
-use Rattle.disk_model.specs.Disk.{Tree, Outside}
+use Rattle.nx_base.specs.declared.blob_ref.BlobRef.{BlobRef}
+use Rattle.disk_model.specs.Disk.{Tree}
 use Rattle.repo_model.specs.declared.plain.config.PlainConfig.{PlainConfig}
+use Rattle.tree_content.specs.Blobs.{IsRef, props_name}
 use Rattle.repo_core.specs.declared.own.Own.{Own}
 use Rattle.repo_core.specs.View.{CoreView}
 
--- no name outside `tmp` has a value
-abbrev pub IsEmptyTree : Tree → Type 0
-IsEmptyTree tree = (n : List ℕ) → Outside n → tree n ≡ None
+-- no blob stands: no properties file has the name of one. Other files may be there.
+abbrev pub HasNoBlob : Tree → Type 0
+HasNoBlob tree = (blob : BlobRef) → IsRef blob → tree (props_name blob) ≡ None
 
 -- nothing is kept
 abbrev pub nothing_kept : Own

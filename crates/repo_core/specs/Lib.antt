@@ -8,8 +8,8 @@ pub mod Standing
 pub mod Ends
 pub mod Marks
 pub mod Puts
-pub mod Hosted
 pub mod Fresh
 pub mod Got
 pub mod Looking
 pub mod Begun
+pub mod Stays

@@ -38,7 +38,7 @@ use Rattle.repo_core.specs.declared.denial.Denial.{Denial}
 use Rattle.repo_core.specs.declared.denial.Denial.TheVariants as denial
 use Rattle.repo_core.specs.declared.own.Own.{Own}
 use Rattle.repo_core.specs.Faults.{of_disk, of_keeper}
-use Rattle.repo_core.specs.Ends.{Denies}
+use Rattle.repo_core.specs.Ends.{DeniesAt}
 use Rattle.repo_core.specs.Marks.{Stages}
 
 -- what the properties of a new blob say
@@ -59,6 +59,11 @@ pub record IsNewBlob (upload : Upload) (blob : BlobRef) (made : NewBlob) : Type 
   pub says : Readable made.text.items (props_of upload blob.stamp)
   pub asset_is : made.asset ≡ new_asset upload blob blob.stamp
   pub change_is : made.change ≡ change.Set (record { key = upload.key; asset = new_asset upload blob blob.stamp })
+
+-- the names are those of the asset's blob
+pub record IsPlaced (made : NewBlob) : Type 0 where
+  pub ref : IsRef made.asset.blob
+  pub place_is : made.files.place ≡ place_of made.asset.blob
 
 -- the mark of the blob that the key had, if it had one
 abbrev pub StagesOld : {S : Type 0} → (S → List ℕ) → Tree → ℕ → Option Asset → Option (Mark S) → Type 0
@@ -96,10 +101,10 @@ pub record AreBytes (upload : Upload) (bytes : List ℕ) : Type 0 where
   pub sized : length bytes ≡ upload.size
   pub digested : sha1 bytes ≡ upload.sha1
 
--- the upload's repository is declared, and may write to that store
-pub record MayGo (config : Config) (upload : Upload) (store : List ℕ) : Type 0 where
+-- the key's repository is declared, and may write to that store
+pub record MayGo (config : Config) (key : Key) (store : List ℕ) : Type 0 where
   pub repo : Repo
-  pub declared : repo_of config upload.key.repo ≡ Some repo
+  pub declared : repo_of config key.repo ≡ Some repo
   pub takes_it : takes config repo store ≡ true
 
 -- Everything stands ready by which the step of the call is done: the new blob, under names that are free, and the mark of the old one.
@@ -117,7 +122,7 @@ pub record IsPrepared {S : Type 0} (content : S → List ℕ) (config : Config) 
 -- ready so, or why not
 abbrev pub Prepares : {S : Type 0} → (S → List ℕ) → Config → Tree → State → List ℕ → Upload → Moment → Own → Own → Result (Staged S) Denial → Type 0
 Prepares content config tree s store upload moment own kept (Ok staged) = IsPrepared content config tree s store upload moment own kept staged
-Prepares content config tree s store upload moment own kept (Err why) = Denies config s (put_call upload moment) why
+Prepares content config tree s store upload moment own kept (Err why) = DeniesAt config s store (put_call upload moment) why
 
 -- the asset that a put answers
 abbrev pub asset_of : Result Kept Refusal → Result Asset Refusal

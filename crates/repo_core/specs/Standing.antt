@@ -1,12 +1,14 @@
 -- When a core stands for a state of the one-thread repository, and what a call of it leads to.
-use Rattle.std.specs.Prelude.{◌≡◌, ◌⊎◌, ℕ, Bool, true, false, IsTrue, List, length, Option, None}
+use Rattle.std.specs.Prelude.{◌≡◌, ◌⊎◌, ℕ, Bool, true, false, IsTrue, List, [], ◌∷◌, length, Option, Some, None}
 use Rattle.repo_model.specs.declared.call.Call.{Call}
 use Rattle.repo_model.specs.declared.entry.Entry.{Entry}
+use Rattle.repo_model.specs.declared.reply.Refusal.{Refusal}
+use Rattle.repo_model.specs.declared.reply.Refusal.TheVariants as refusal
 use Rattle.repo_model.specs.declared.reply.Reply.{Reply}
 use Rattle.repo_model.specs.declared.reply.Reply.TheVariants as reply
 use Rattle.repo_model.specs.Config.{Config}
 use Rattle.repo_model.specs.State.{State}
-use Rattle.repo_model.specs.Step.{Step}
+use Rattle.repo_model.specs.Step.{Step, outcome}
 use Rattle.repo_model.specs.History.{LegalFrom}
 use Rattle.repo_model.specs.Plain.{config_of}
 use Rattle.disk_model.specs.Disk.{Tree, Lists}
@@ -27,6 +29,43 @@ pub record Tracks {D T : Type 0} (tree : D → Tree) (table : T → Option Table
 abbrev pub Moves : {D T : Type 0} → (D → Tree) → (T → Option Table) → CoreView D T → CoreView D T → List Entry → State → Type 0
 Moves tree table old new entries s =
     (t : State) × LegalFrom (config_of old.config) (length old.journal.entries) s entries t × Tracks tree table new t
+
+-- a refusal that tells of no fault of a device, and of no want of memory
+abbrev pub IsSteadyRefusal : Refusal → Type 0
+IsSteadyRefusal refusal.NotFound = Unit {0}
+IsSteadyRefusal refusal.UnknownRepo = Unit {0}
+IsSteadyRefusal (refusal.WriteDenied policy) = Unit {0}
+IsSteadyRefusal refusal.NoWritable = Unit {0}
+IsSteadyRefusal (refusal.IdTaken id) = Unit {0}
+IsSteadyRefusal refusal.StampsUsed = Unit {0}
+IsSteadyRefusal refusal.RemoteFault = Unit {0}
+IsSteadyRefusal (refusal.Damaged size found) = Unit {0}
+IsSteadyRefusal refusal.DiskFault = ⊥
+IsSteadyRefusal refusal.KeeperFault = ⊥
+IsSteadyRefusal (refusal.Broken cause) = Unit {0}
+IsSteadyRefusal refusal.JournalFull = Unit {0}
+IsSteadyRefusal refusal.NoMemory = ⊥
+
+-- a reply that tells of none
+abbrev pub IsSteady : Reply → Type 0
+IsSteady (reply.Begun store) = Unit {0}
+IsSteady (reply.Stored asset) = Unit {0}
+IsSteady (reply.Found asset) = Unit {0}
+IsSteady reply.Gone = Unit {0}
+IsSteady reply.Removed = Unit {0}
+IsSteady (reply.Reconciled kept) = Unit {0}
+IsSteady (reply.Refused why) = IsSteadyRefusal why
+
+-- where the reply tells of no fault, the step of the upload in that store answers so
+abbrev pub AnswersAt : Config → State → List ℕ → Call → Reply → State → Type 0
+AnswersAt config s store c said new = IsSteady said → outcome config s store c ≡ Some (record { reply = said; new = new })
+
+-- this entry, made after those before the call, leads to a state that the new core stands for, and where it tells of no fault, by the step
+-- of the upload in that store
+abbrev pub MovesAt : {D T : Type 0} → (D → Tree) → (T → Option Table) → CoreView D T → CoreView D T → List ℕ → Entry → State → Type 0
+MovesAt tree table old new store entry s =
+    (t : State) × LegalFrom (config_of old.config) (length old.journal.entries) s (entry ∷ []) t × Tracks tree table new t
+    × AnswersAt (config_of old.config) s store entry.call entry.reply t
 
 -- everything is settled: each name outside `tmp` has its present value alone in its list
 abbrev pub IsDurable : {D : Type 0} → (D → Tree) → (D → ℕ) → (D → ℕ → Lists) → D → Type 0

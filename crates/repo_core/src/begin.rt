@@ -1,20 +1,23 @@
-ghost use Rattle.std.specs.Prelude.{◌≡◌, ◌∷◌, [], Err, IfOk, OnErr, IsSome, Some, None, true};
+ghost use Rattle.std.specs.Prelude.{◌≡◌, length, ◌∷◌, [], Err, IfOk, OnErr, IsSome, Some, None, true};
 ghost use Rattle.std.specs.Option.{option_map};
-ghost use Rattle.nx_io.specs.Causes.{HasCauseWhere};
+ghost use Rattle.nx_io.specs.Causes.{HasCauseWhere, Rose};
 ghost use Rattle.nx_base.specs.declared.policy.Policy.TheVariants.{NoRedeploy};
 ghost use Rattle.disk_model.specs.Disk.{Same};
 ghost use Rattle.disk_model.specs.Moments.{During};
 ghost use Rattle.asset_keeper.specs.Told.{Tells};
 ghost use Rattle.blob_files.specs.Uploads.{HasTaken};
+ghost use Rattle.blob_files.specs.declared.upload.Target.{Target};
 ghost use Rattle.repo_model.specs.State.{State};
 ghost use Rattle.repo_model.specs.Plain.{config_of};
 ghost use Rattle.repo_model.specs.declared.call.Call.TheVariants as call;
 ghost use Rattle.repo_model.specs.declared.call.Kind.TheVariants as kinds;
 ghost use Rattle.repo_model.specs.declared.reply.Cause.{Cause};
+ghost use Rattle.repo_model.specs.declared.reply.Fault.TheVariants as fault;
 ghost use Rattle.repo_model.specs.declared.reply.Refusal.TheVariants as refusal;
 ghost use Rattle.repo_core.specs.Faults.{IsDisk, IsKeeper, RefusedBy};
 ghost use Rattle.repo_core.specs.Answers.{IsFull, HasRoom, with_entry, entry_of};
 ghost use Rattle.repo_core.specs.Begun.{begun_in};
+ghost use Rattle.repo_core.specs.Puts.{MayGo};
 ghost use Rattle.repo_core.specs.Standing.{Tracks, Moves, IsDurable};
 
 use crate::beginning::begin_upload;
@@ -45,6 +48,8 @@ impl<D: Disk, T: Keeper> Core<D, T> {
             → Moves D.tree T.table self.old self.new (entry_of caller (call.Begin begin) begun_in result ∷ []) s }
         // The upload is of this begin, its writer is sound, and nothing was taken into it yet.
         ensures target { IfOk result (λ upload. option_map (λ t. t.begin) upload.target ≡ Some begin) }
+        // Its repository may write to its store.
+        ensures may_go { IfOk result (λ upload. (t : Target) → upload.target ≡ Some t → MayGo (config_of self.old.config) begin.key t.store) }
         ensures writer { IfOk result (λ upload. D.Writer.faults upload.writer ≡ 0) }
         ensures taken { D.told → IfOk result (λ upload. HasTaken D.Writer.told D.Writer.written upload []) }
         // Nothing can be seen in the files, at no moment.
@@ -61,6 +66,10 @@ impl<D: Disk, T: Keeper> Core<D, T> {
         ensures no_redeploy { result ≡ Err (refusal.WriteDenied NoRedeploy) → T.found self.new.table ≡ true }
         ensures disk_cause { HasCauseWhere (RefusedBy IsDisk) (D.faults self.old.disk) (D.faults self.new.disk) result }
         ensures keeper_cause { HasCauseWhere (RefusedBy IsKeeper) (T.faults self.old.table) (T.faults self.new.table) result }
+        // A device breaks it only where the device's count rose, and the cause names this entry.
+        ensures broke_disk { (cause : Cause) → self.old.broken ≡ None → self.new.broken ≡ Some cause → cause.fault ≡ fault.Disk → Rose (D.faults self.old.disk) (D.faults self.new.disk) }
+        ensures broke_keeper { (cause : Cause) → self.old.broken ≡ None → self.new.broken ≡ Some cause → cause.fault ≡ fault.Keeper → Rose (T.faults self.old.table) (T.faults self.new.table) }
+        ensures number { (cause : Cause) → self.old.broken ≡ None → self.new.broken ≡ Some cause → cause.entry ≡ length self.old.journal.entries }
     {
         if self.journal.is_full() {
             return Err(Refusal::JournalFull);

@@ -14,6 +14,7 @@ ghost use Rattle.repo_core.specs.Rows.{rows_in};
 ghost use Rattle.repo_core.specs.Agree.{Agrees};
 ghost use Rattle.repo_core.specs.Faults.{IsDisk, IsKeeper, DeniedBy};
 ghost use Rattle.repo_core.specs.Begun.{EndsBegin};
+ghost use Rattle.repo_core.specs.Puts.{MayGo};
 
 use crate::choosing::{Chosen, choose_store, may_replace};
 use crate::denial::{Denial, disk_fault};
@@ -68,6 +69,7 @@ pub(crate) fn begin_upload<D: Disk, T: Keeper>(
     ensures ends { D.told → IsSome (T.table table.new) → (s : State) → Agrees (config_of config.now) (D.tree disk.old) (rows_in (T.table table.old)) own.old s
         → EndsBegin (config_of config.now) s begin.now (Agrees (config_of config.now) (D.tree disk.new) (rows_in (T.table table.new)) own.new) result }
     ensures target { IfOk result (λ begun. begun.upload.target ≡ Some (record { begin = begin.now; store = begun.store })) }
+    ensures may_go { IfOk result (λ begun. MayGo (config_of config.now) begin.now.key begun.store) }
     ensures sound { IfOk result (λ begun. D.Writer.faults begun.upload.writer ≡ 0) }
     ensures taken { D.told → IfOk result (λ begun. HasTaken D.Writer.told D.Writer.written begun.upload []) }
     ensures tree { D.told → Same (D.tree disk.old) (D.tree disk.new) }

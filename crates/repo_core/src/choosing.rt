@@ -9,6 +9,7 @@ ghost use Rattle.repo_core.specs.declared.denial.Denial.TheVariants as denial;
 ghost use Rattle.repo_core.specs.Rows.{rows_in};
 ghost use Rattle.repo_core.specs.Faults.{IsDisk, IsKeeper, DeniedBy};
 ghost use Rattle.repo_core.specs.Begun.{MayChoose, MayReplace};
+ghost use Rattle.repo_core.specs.Puts.{MayGo};
 
 use crate::denial::{Denial, keeper_fault};
 use crate::own::Own;
@@ -60,6 +61,7 @@ pub(crate) fn choose_store(
 ) -> Result<Chosen, Denial>
     requires { begin.now.kind ≡ kinds.Put }
     ensures row { (s : State) → s.broken ≡ None → own.now.counts ≡ s.counts → MayChoose (config_of config.now) s begin.now result }
+    ensures may_go { IfOk result (λ c. MayGo (config_of config.now) begin.now.key c.store) }
     ensures copy { IfOk result (λ c. c.copy ≡ c.store) }
     ensures nobody { IfErr result (λ why. ¬ DeniedBy IsDisk why × ¬ DeniedBy IsKeeper why) }
     ensures replaceable { IfErr result (λ why. ¬ (why ≡ denial.WriteDenied policies.NoRedeploy)) }

@@ -1,5 +1,5 @@
-ghost use Rattle.std.specs.Prelude.{◌≡◌, ◌≢◌, ◌∷◌, [], ℕ, Option, Err, OnErr, IsSome, Some, None, false};
-ghost use Rattle.nx_io.specs.Causes.{HasCauseWhere};
+ghost use Rattle.std.specs.Prelude.{◌≡◌, length, ◌≢◌, ◌∷◌, [], ℕ, Option, Err, OnErr, IsSome, Some, None, false};
+ghost use Rattle.nx_io.specs.Causes.{HasCauseWhere, Rose};
 ghost use Rattle.disk_model.specs.Disk.{Same};
 ghost use Rattle.disk_model.specs.Moments.{During, EachImage};
 ghost use Rattle.asset_keeper.specs.Told.{Tells};
@@ -7,8 +7,10 @@ ghost use Rattle.repo_model.specs.State.{State};
 ghost use Rattle.repo_model.specs.Plain.{config_of};
 ghost use Rattle.repo_model.specs.declared.call.Call.TheVariants as call;
 ghost use Rattle.repo_model.specs.declared.reply.Cause.{Cause};
+ghost use Rattle.repo_model.specs.declared.reply.Fault.TheVariants as fault;
 ghost use Rattle.repo_model.specs.declared.reply.Reply.TheVariants as reply;
 ghost use Rattle.repo_model.specs.declared.reply.Refusal.TheVariants as refusal;
+ghost use Rattle.repo_core.specs.Stays.{BytesStay};
 ghost use Rattle.repo_core.specs.Faults.{IsDisk, IsKeeper, RefusedBy};
 ghost use Rattle.repo_core.specs.Answers.{IsFull, HasRoom, with_entry, entry_of};
 ghost use Rattle.repo_core.specs.Standing.{Tracks, Moves, IsDurable, BeforeOrAfter};
@@ -42,6 +44,8 @@ impl<D: Disk, T: Keeper> Core<D, T> {
         ensures crash { D.told → IsSome (T.table self.new.table) → (s : State) → Tracks D.tree T.table self.old s → self.old.broken ≡ None → IsDurable D.tree D.clock D.lists self.old.disk
             → During D.clock D.lists self.old.disk self.new.disk (EachImage (BeforeOrAfter (config_of self.old.config) s (call.Delete key moment.now))) }
         ensures durable { D.told → self.new.broken ≡ None → IsDurable D.tree D.clock D.lists self.old.disk → IsDurable D.tree D.clock D.lists self.new.disk }
+        // The content of each blob that stood stays.
+        ensures stays { D.told → self.new.broken ≡ None → BytesStay (D.tree self.old.disk) (D.tree self.new.disk) }
         // A refusal that doesn't break it leaves files, rows and its own parts.
         ensures clean_files { D.told → self.new.broken ≡ None → OnErr result (Same (D.tree self.old.disk) (D.tree self.new.disk)) }
         ensures clean_moments { D.told → self.new.broken ≡ None → OnErr result (During D.clock D.lists self.old.disk self.new.disk (Same (D.lists self.old.disk (D.clock self.old.disk)))) }
@@ -57,6 +61,10 @@ impl<D: Disk, T: Keeper> Core<D, T> {
         ensures whole { D.told → IsSome (T.table self.new.table) → (s : State) → Tracks D.tree T.table self.old s → (size : ℕ) (found : Option ℕ) → result ≢ Err (refusal.Damaged size found) }
         ensures disk_cause { HasCauseWhere (RefusedBy IsDisk) (D.faults self.old.disk) (D.faults self.new.disk) result }
         ensures keeper_cause { HasCauseWhere (RefusedBy IsKeeper) (T.faults self.old.table) (T.faults self.new.table) result }
+        // A device breaks it only where the device's count rose, and the cause names this entry.
+        ensures broke_disk { (cause : Cause) → self.old.broken ≡ None → self.new.broken ≡ Some cause → cause.fault ≡ fault.Disk → Rose (D.faults self.old.disk) (D.faults self.new.disk) }
+        ensures broke_keeper { (cause : Cause) → self.old.broken ≡ None → self.new.broken ≡ Some cause → cause.fault ≡ fault.Keeper → Rose (T.faults self.old.table) (T.faults self.new.table) }
+        ensures number { (cause : Cause) → self.old.broken ≡ None → self.new.broken ≡ Some cause → cause.entry ≡ length self.old.journal.entries }
     {
         if self.journal.is_full() {
             return Err(Refusal::JournalFull);

@@ -21,6 +21,7 @@ ghost use Rattle.repo_core.specs.Faults.{IsDisk, IsKeeper, DeniedBy, StoppedBy};
 ghost use Rattle.repo_core.specs.Answers.{is_denied, is_broke};
 ghost use Rattle.repo_core.specs.Standing.{IsDurable, BeforeOrAfter};
 ghost use Rattle.repo_core.specs.Ends.{MayDelete, Ends};
+ghost use Rattle.repo_core.specs.Stays.{BytesStay};
 
 use crate::denial::{Denial, disk_fault, keeper_fault};
 use crate::marking::{Mark, stage_mark};
@@ -160,6 +161,8 @@ pub(crate) fn give_up_row<D: Disk, T: Keeper>(
         → IsDurable D.tree D.clock D.lists disk.old
         → During D.clock D.lists disk.old disk.new (EachImage (BeforeOrAfter (config_of config.now) s (call.Delete key.now now))) }
     ensures durable { D.told → is_broke result ≡ false → IsDurable D.tree D.clock D.lists disk.old → IsDurable D.tree D.clock D.lists disk.new }
+    // No blob loses its content.
+    ensures stays { D.told → BytesStay (D.tree disk.old) (D.tree disk.new) }
     // A denial leaves the files, the rows and what the core keeps.
     ensures clean_files { D.told → is_denied result ≡ true → Same (D.tree disk.old) (D.tree disk.new) }
     ensures clean_moments { D.told → is_denied result ≡ true → During D.clock D.lists disk.old disk.new (Same (D.lists disk.old (D.clock disk.old))) }

@@ -1,4 +1,4 @@
-ghost use Rattle.std.specs.Prelude.{◌≡◌, None, slice_set};
+ghost use Rattle.std.specs.Prelude.{◌≡◌, length, None, slice_set};
 ghost use Rattle.disk_model.specs.Disk.{Same, TakesBack};
 ghost use Rattle.disk_model.specs.Moments.{During};
 ghost use Rattle.repo_model.specs.State.{State};
@@ -25,6 +25,7 @@ impl<D: Disk, T: Keeper> Core<D, T> {
     /// memory, and makes no entry.
     pub fn end_get(&mut self, caller: u32, download: Download<D::Reader>)
         ensures core { self.new ≡ record self.old { disk = self.new.disk; holds = slice_set self.old.holds caller None } }
+        ensures callers { length self.new.holds ≡ length self.old.holds }
         // Nothing can be seen in the files, at no moment.
         ensures files { D.told → Same (D.tree self.old.disk) (D.tree self.new.disk) }
         ensures moments { D.told → During D.clock D.lists self.old.disk self.new.disk (Same (D.lists self.old.disk (D.clock self.old.disk))) }

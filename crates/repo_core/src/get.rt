@@ -1,5 +1,5 @@
 ghost use Rattle.std.specs.Prelude.{◌≡◌, ◌≢◌, ◌<◌, ◌∷◌, [], ℕ, length, slice_get, Err, IfOk, OnErr, IsSome, Option, Some, None, false};
-ghost use Rattle.nx_io.specs.Causes.{HasCauseWhere};
+ghost use Rattle.nx_io.specs.Causes.{HasCauseWhere, Rose};
 ghost use Rattle.disk_model.specs.Disk.{Same};
 ghost use Rattle.disk_model.specs.Moments.{During, EachImage};
 ghost use Rattle.asset_keeper.specs.Told.{Tells};
@@ -10,6 +10,7 @@ ghost use Rattle.repo_model.specs.declared.call.Call.TheVariants as call;
 ghost use Rattle.repo_model.specs.declared.call.Look.TheVariants as looks;
 ghost use Rattle.repo_model.specs.declared.call.RemoteSaid.TheVariants as remote;
 ghost use Rattle.repo_model.specs.declared.reply.Cause.{Cause};
+ghost use Rattle.repo_model.specs.declared.reply.Fault.TheVariants as fault;
 ghost use Rattle.repo_model.specs.declared.reply.Refusal.TheVariants as refusal;
 ghost use Rattle.repo_core.specs.Stores.{homes_of};
 ghost use Rattle.repo_core.specs.Rows.{contents_in};
@@ -68,6 +69,7 @@ impl<D: Disk, T: Keeper> Core<D, T> {
         ensures config { self.new.config ≡ self.old.config }
         // After a Hit the caller holds its blob, by the number of this entry. All other holds stay.
         ensures holds { HoldsAfter (length self.old.journal.entries) caller self.old.holds self.new.holds result }
+        ensures callers { length self.new.holds ≡ length self.old.holds }
         // A GET gives the bytes, and a HEAD, which doesn't call the disk, what is known.
         ensures kind { IfOk result (IsGotFor look) }
         ensures head { look ≡ looks.Head → self.new.disk ≡ self.old.disk }
@@ -82,6 +84,10 @@ impl<D: Disk, T: Keeper> Core<D, T> {
         ensures whole { D.told → IsSome (T.table self.new.table) → (s : State) → Tracks D.tree T.table self.old s → (size : ℕ) (found : Option ℕ) → result ≢ Err (refusal.Damaged size found) }
         ensures disk_cause { HasCauseWhere (RefusedBy IsDisk) (D.faults self.old.disk) (D.faults self.new.disk) result }
         ensures keeper_cause { HasCauseWhere (RefusedBy IsKeeper) (T.faults self.old.table) (T.faults self.new.table) result }
+        // A device breaks it only where the device's count rose, and the cause names this entry.
+        ensures broke_disk { (cause : Cause) → self.old.broken ≡ None → self.new.broken ≡ Some cause → cause.fault ≡ fault.Disk → Rose (D.faults self.old.disk) (D.faults self.new.disk) }
+        ensures broke_keeper { (cause : Cause) → self.old.broken ≡ None → self.new.broken ≡ Some cause → cause.fault ≡ fault.Keeper → Rose (T.faults self.old.table) (T.faults self.new.table) }
+        ensures number { (cause : Cause) → self.old.broken ≡ None → self.new.broken ≡ Some cause → cause.entry ≡ length self.old.journal.entries }
     {
         if self.journal.is_full() {
             return Err(Refusal::JournalFull);

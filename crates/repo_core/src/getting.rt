@@ -20,7 +20,7 @@ ghost use Rattle.repo_core.specs.declared.own.Own.{Own};
 ghost use Rattle.repo_core.specs.declared.stop.Stop.TheVariants as stop;
 ghost use Rattle.repo_core.specs.Rows.{rows_in};
 ghost use Rattle.repo_core.specs.Agree.{Agrees};
-ghost use Rattle.repo_core.specs.Hosted.{AllHosted};
+ghost use Rattle.repo_config.specs.Hosted.{AllHosted};
 ghost use Rattle.repo_core.specs.Faults.{IsDisk, IsKeeper, DeniedBy, StoppedBy};
 ghost use Rattle.repo_core.specs.Answers.{is_denied};
 ghost use Rattle.repo_core.specs.Ends.{Ends};

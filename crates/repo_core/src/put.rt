@@ -1,18 +1,21 @@
-ghost use Rattle.std.specs.Prelude.{◌≡◌, ◌<◌, ◌^◌, ◌∷◌, [], ℕ, List, Err, IfOk, OnErr, IsSome, Some, None, true};
-ghost use Rattle.nx_io.specs.Causes.{HasCauseWhere};
+ghost use Rattle.std.specs.Prelude.{◌≡◌, ◌<◌, ◌^◌, ◌∷◌, [], ℕ, List, length, Err, IfOk, OnErr, IsSome, Some, None, true};
+ghost use Rattle.nx_io.specs.Causes.{HasCauseWhere, Rose};
 ghost use Rattle.nx_base.specs.declared.policy.Policy.TheVariants.{NoRedeploy};
 ghost use Rattle.disk_model.specs.Disk.{Same};
 ghost use Rattle.disk_model.specs.Moments.{During, EachImage};
+ghost use Rattle.tree_content.specs.Blobs.{bytes_name};
 ghost use Rattle.asset_keeper.specs.Told.{Tells};
 ghost use Rattle.repo_model.specs.State.{State};
 ghost use Rattle.repo_model.specs.Plain.{config_of};
 ghost use Rattle.repo_model.specs.declared.reply.Cause.{Cause};
+ghost use Rattle.repo_model.specs.declared.reply.Fault.TheVariants as fault;
 ghost use Rattle.repo_model.specs.declared.reply.Reply.TheVariants as reply;
 ghost use Rattle.repo_model.specs.declared.reply.Refusal.TheVariants as refusal;
 ghost use Rattle.repo_core.specs.Faults.{IsDisk, IsKeeper, RefusedBy};
 ghost use Rattle.repo_core.specs.Answers.{IsFull, HasRoom, with_entry, entry_of};
 ghost use Rattle.repo_core.specs.Puts.{put_call, upload_of, MayGo, AreBytes};
-ghost use Rattle.repo_core.specs.Standing.{Tracks, Moves, IsDurable, BeforeOrAfter};
+ghost use Rattle.repo_core.specs.Stays.{BytesStay};
+ghost use Rattle.repo_core.specs.Standing.{Tracks, MovesAt, IsDurable, BeforeOrAfter};
 
 use crate::end::{answer_of, cause_of};
 use crate::entries::{put, stored};
@@ -44,15 +47,18 @@ impl<D: Disk, T: Keeper> Core<D, T> {
             → (result ≡ Err (refusal.Broken cause)) × (self.new ≡ record self.old { disk = self.new.disk; journal = self.new.journal }) }
         ensures only_broken { (cause : Cause) → result ≡ Err (refusal.Broken cause) → self.old.broken ≡ Some cause }
         ensures broken_files { D.told → IsSome self.old.broken → During D.clock D.lists self.old.disk self.new.disk (Same (D.lists self.old.disk (D.clock self.old.disk))) }
-        // From each state that the core stands for, the entry leads to one that the new core stands for, where the size and the digest are
-        // those of the file, and its repository may write to the store.
-        ensures moves { D.told → IsSome (T.table self.new.table) → HasRoom self.old.journal → MayGo (config_of self.old.config) (upload_of ready) ready.store → AreBytes (upload_of ready) (D.Writer.content ready.file)
+        // From each state that the core stands for, the entry leads to one that the new core stands for, by the step at the upload's own
+        // store, where the size and the digest are those of the file, and its repository may write to the store.
+        ensures moves { D.told → IsSome (T.table self.new.table) → HasRoom self.old.journal → MayGo (config_of self.old.config) ready.begin.key ready.store → AreBytes (upload_of ready) (D.Writer.content ready.file)
             → (s : State) → Tracks D.tree T.table self.old s
-            → Moves D.tree T.table self.old self.new (entry_of caller (put_call (upload_of ready) moment) (λ asset. reply.Stored asset) result ∷ []) s }
+            → MovesAt D.tree T.table self.old self.new ready.store (entry_of caller (put_call (upload_of ready) moment) (λ asset. reply.Stored asset) result) s }
         // The blob stands in the store of the upload.
         ensures store { IfOk result (λ asset. asset.blob.store ≡ ready.store) }
+        // Its bytes are those of the file, and the content of each blob that stood stays.
+        ensures made { D.told → IfOk result (λ asset. D.tree self.new.disk (bytes_name asset.blob) ≡ Some (D.Writer.content ready.file)) }
+        ensures stays { D.told → self.new.broken ≡ None → BytesStay (D.tree self.old.disk) (D.tree self.new.disk) }
         // At every moment each image that a crash may leave has the contents before or after.
-        ensures crash { D.told → IsSome (T.table self.new.table) → MayGo (config_of self.old.config) (upload_of ready) ready.store → AreBytes (upload_of ready) (D.Writer.content ready.file)
+        ensures crash { D.told → IsSome (T.table self.new.table) → MayGo (config_of self.old.config) ready.begin.key ready.store → AreBytes (upload_of ready) (D.Writer.content ready.file)
             → (s : State) → Tracks D.tree T.table self.old s → self.old.broken ≡ None → IsDurable D.tree D.clock D.lists self.old.disk
             → During D.clock D.lists self.old.disk self.new.disk (EachImage (BeforeOrAfter (config_of self.old.config) s (put_call (upload_of ready) moment))) }
         ensures durable { D.told → self.new.broken ≡ None → IsDurable D.tree D.clock D.lists self.old.disk → IsDurable D.tree D.clock D.lists self.new.disk }
@@ -69,6 +75,10 @@ impl<D: Disk, T: Keeper> Core<D, T> {
         ensures taken { (id : List ℕ) → result ≡ Err (refusal.IdTaken id) → IsSome (D.last_look self.new.disk) }
         ensures disk_cause { HasCauseWhere (RefusedBy IsDisk) (D.faults self.old.disk) (D.faults self.new.disk) result }
         ensures keeper_cause { HasCauseWhere (RefusedBy IsKeeper) (T.faults self.old.table) (T.faults self.new.table) result }
+        // A device breaks it only where the device's count rose, and the cause names this entry.
+        ensures broke_disk { (cause : Cause) → self.old.broken ≡ None → self.new.broken ≡ Some cause → cause.fault ≡ fault.Disk → Rose (D.faults self.old.disk) (D.faults self.new.disk) }
+        ensures broke_keeper { (cause : Cause) → self.old.broken ≡ None → self.new.broken ≡ Some cause → cause.fault ≡ fault.Keeper → Rose (T.faults self.old.table) (T.faults self.new.table) }
+        ensures number { (cause : Cause) → self.old.broken ≡ None → self.new.broken ≡ Some cause → cause.entry ≡ length self.old.journal.entries }
     {
         if self.journal.is_full() {
             self.disk.discard(ready.file);

@@ -1,5 +1,5 @@
 //! The work of putting a content.
-ghost use Rattle.std.specs.Prelude.{◌≡◌, ◌<◌, ◌^◌, ◌∷◌, [], ℕ, List, true, false, IsTrue, IsSome, IfOk, OnOk, OnErr, Err, Some};
+ghost use Rattle.std.specs.Prelude.{◌≡◌, ◌<◌, ◌^◌, ◌∷◌, [], ℕ, List, true, false, IsTrue, IsSome, IfOk, OnOk, OnErr, Err, Some, None};
 ghost use Rattle.nx_io.specs.Causes.{HasCauseWhere};
 ghost use Rattle.nx_base.specs.declared.policy.Policy.TheVariants.{NoRedeploy};
 ghost use Rattle.repo_model.specs.State.{State};
@@ -9,16 +9,17 @@ ghost use Rattle.disk_model.specs.Moments.{During, EachImage};
 ghost use Rattle.repo_core.specs.declared.denial.Denial.TheVariants as denial;
 ghost use Rattle.repo_core.specs.Rows.{rows_in};
 ghost use Rattle.repo_core.specs.Agree.{Agrees};
-ghost use Rattle.repo_core.specs.Puts.{MayGo, AreBytes, Prepares, put_call};
+ghost use Rattle.repo_core.specs.Puts.{MayGo, AreBytes, IsPlaced, Prepares, put_call};
+ghost use Rattle.repo_core.specs.Stays.{BytesStay};
 ghost use Rattle.asset_keeper.specs.Table.{changed};
 ghost use Rattle.asset_keeper.specs.Told.{Tells};
 ghost use Rattle.asset_keeper.specs.Ranges.{change_in_range};
-ghost use Rattle.tree_content.specs.Blobs.{bytes_at, props_at};
+ghost use Rattle.tree_content.specs.Blobs.{bytes_at, props_at, bytes_name, props_name};
 ghost use Rattle.tree_content.specs.Files.{RestOfPlace, Creates};
 ghost use Rattle.repo_core.specs.Faults.{IsDisk, IsKeeper, DeniedBy, StoppedBy};
 ghost use Rattle.repo_core.specs.Answers.{is_denied, is_broke};
 ghost use Rattle.repo_core.specs.Standing.{IsDurable, BeforeOrAfter};
-ghost use Rattle.repo_core.specs.Ends.{Ends};
+ghost use Rattle.repo_core.specs.Ends.{EndsAt};
 ghost use Rattle.repo_core.specs.declared.stop.Stop.TheVariants as stop;
 ghost use Rattle.repo_model.specs.declared.reply.Reply.TheVariants as reply;
 
@@ -83,12 +84,14 @@ fn prepare<D: Disk, T: Keeper>(
     moment: &Moment,
 ) -> Result<Staged<D::Sealed>, Denial>
     requires size { upload.now.size < 2 ^ 63 }
-    ensures ready { D.told → IsSome (T.table table.new) → MayGo (config_of config.now) upload.now store.now
+    ensures ready { D.told → IsSome (T.table table.new) → MayGo (config_of config.now) upload.now.key store.now
         → (s : State) → Agrees (config_of config.now) (D.tree disk.old) (rows_in (T.table table.old)) own.old s
         → Prepares D.Writer.content (config_of config.now) (D.tree disk.old) s store.now upload.now moment.entry.now own.old own.new result }
     ensures range { IfOk result (λ staged. IsTrue (change_in_range staged.new.change)) }
     ensures copy { IfOk result (λ staged. staged.new.copy ≡ staged.new.asset) }
     ensures store { IfOk result (λ staged. staged.new.asset.blob.store ≡ store.now) }
+    ensures placed { IfOk result (λ staged. IsPlaced staged.new) }
+    ensures free { D.told → IfOk result (λ staged. D.tree disk.old (props_name staged.new.asset.blob) ≡ None) }
     ensures rows { Tells (T.table table.old) (T.table table.new) (λ s t. t ≡ s) }
     ensures clean { OnErr result (own.new ≡ own.old) }
     ensures tree { D.told → Same (D.tree disk.old) (D.tree disk.new) }
@@ -124,11 +127,11 @@ pub(crate) fn put_content<D: Disk, T: Keeper>(
 ) -> Result<Kept, Stop>
     requires size { upload.now.size < 2 ^ 63 }
     // What it comes to is what the step says.
-    ensures ends { D.told → IsSome (T.table table.new) → MayGo (config_of config.now) upload.now store.now → AreBytes upload.now (D.Writer.content file)
+    ensures ends { D.told → IsSome (T.table table.new) → MayGo (config_of config.now) upload.now.key store.now → AreBytes upload.now (D.Writer.content file)
         → (s : State) → Agrees (config_of config.now) (D.tree disk.old) (rows_in (T.table table.old)) own.old s
-        → Ends (config_of config.now) s (put_call upload.now moment.entry.now) (λ kept. reply.Stored kept.asset) (Agrees (config_of config.now) (D.tree disk.new) (rows_in (T.table table.new)) own.new) result }
+        → EndsAt (config_of config.now) s store.now (put_call upload.now moment.entry.now) (λ kept. reply.Stored kept.asset) (Agrees (config_of config.now) (D.tree disk.new) (rows_in (T.table table.new)) own.new) result }
     // At every moment each image has the contents before or after.
-    ensures crash { D.told → IsSome (T.table table.new) → MayGo (config_of config.now) upload.now store.now → AreBytes upload.now (D.Writer.content file)
+    ensures crash { D.told → IsSome (T.table table.new) → MayGo (config_of config.now) upload.now.key store.now → AreBytes upload.now (D.Writer.content file)
         → (s : State) → Agrees (config_of config.now) (D.tree disk.old) (rows_in (T.table table.old)) own.old s → IsDurable D.tree D.clock D.lists disk.old
         → During D.clock D.lists disk.old disk.new (EachImage (BeforeOrAfter (config_of config.now) s (put_call upload.now moment.entry.now))) }
     ensures durable { D.told → is_broke result ≡ false → IsDurable D.tree D.clock D.lists disk.old → IsDurable D.tree D.clock D.lists disk.new }
@@ -139,6 +142,9 @@ pub(crate) fn put_content<D: Disk, T: Keeper>(
     ensures clean_rows { Tells (T.table table.old) (T.table table.new) (λ s t. is_denied result ≡ true → t ≡ s) }
     ensures copy { IfOk result (λ kept. kept.copy ≡ kept.asset) }
     ensures store { IfOk result (λ kept. kept.asset.blob.store ≡ store.now) }
+    // The bytes are those of the file, and no other blob loses its content.
+    ensures made { D.told → IfOk result (λ kept. D.tree disk.new (bytes_name kept.asset.blob) ≡ Some (D.Writer.content file)) }
+    ensures stays { D.told → BytesStay (D.tree disk.old) (D.tree disk.new) }
     ensures no_redeploy { result ≡ Err (stop.Denied (denial.WriteDenied NoRedeploy)) → T.found table.new ≡ true }
     ensures taken { (id : List ℕ) → result ≡ Err (stop.Denied (denial.IdTaken id)) → IsSome (D.last_look disk.new) }
     ensures disk_cause { HasCauseWhere (StoppedBy IsDisk) (D.faults disk.old) (D.faults disk.new) result }

@@ -28,7 +28,7 @@ impl<D: Disk, T: Keeper> Model for Core<D, T> {
     ghost use Rattle.repo_model.specs.Spots.{coded_blob};
     ghost use Rattle.repo_model.specs.declared.deletion.Deletion.{Deletion};
     ghost use Rattle.repo_model.specs.Plain.{config_of};
-    ghost use Rattle.repo_core.specs.Hosted.{AllHosted};
+    ghost use Rattle.repo_config.specs.Hosted.{AllHosted};
     ghost use Rattle.repo_core.specs.View.{CoreView};
 
     ghost Value = { CoreView D T };

@@ -1,48 +1,26 @@
 //! A worked session over the disk and the table in memory, with ample memory.
 ghost use Rattle.std.specs.Prelude.{◌≡◌, IfOk, Some, None, slice_get};
-ghost use Rattle.repo_model.specs.Plain.{config_of};
-ghost use Rattle.repo_core.specs.Hosted.{AllHosted};
 
+use crate::folder::open_folder;
+use crate::opening::Opening;
 use crate::repository::Core;
 use asset_keeper::{Generation, MapKeeper};
 use blob_files::Download;
 use disk_model::{MemDisk, Reader};
-use nx_base::{
-    AssetPath, ContentType, Fill, Key, Member, Moment, NoMemory, Policy, RepoKind, RepoName,
-    StoreName,
-};
-use repo_model::plain::{PlainConfig, PlainGroup, PlainRepo};
+use nx_base::{AssetPath, ContentType, Key, Moment, NoMemory, RepoName};
+use repo_config::Config;
 use repo_model::{Begin, GotOf, Kind, Look, Refusal};
 use std::alloc::Global;
 use std::test::Fail;
 
 /// One hosted repository `files` in one file store `default`.
-fn config(alloc: Global) -> Result<PlainConfig, Fail>
-    ensures { IfOk result (λ config. AllHosted (config_of config)) }
-{
-    let repo = PlainRepo {
-        kind: RepoKind::Hosted,
-        store: StoreName::parse(alloc, b"default")?,
-        policy: Policy::Redeploy,
-        max_age: None,
-        not_found: 0,
-        cleanup: Vec::new(alloc),
-    };
-    let member = Member {
-        store: StoreName::parse(alloc, b"default")?,
-        read_only: false,
-    };
-    let group = PlainGroup {
-        members: vec![in alloc; member]?,
-        fill: Fill::First,
-    };
-    let name = RepoName::parse(alloc, b"files")?;
-    let store = StoreName::parse(alloc, b"default")?;
-    Ok(PlainConfig {
-        repos: vec![in alloc; (name, repo)]?,
-        groups: vec![in alloc; (store, group)]?,
-        compact_age: 0,
-    })
+const CONFIG: &[u8] = b"stores=default\nrepositories=files\nrepo.files.store=default\n";
+
+fn config(alloc: Global) -> Result<Config, Fail> {
+    match Config::read(alloc, CONFIG) {
+        Ok(config) => Ok(config),
+        Err(_) => Err(NoMemory)?,
+    }
 }
 
 fn key(alloc: Global, path: &[u8]) -> Result<Key, Fail> {
@@ -89,9 +67,6 @@ fn put(
         }
     };
     upload.abort();
-    if ready.size > 1000 {
-        return Ok(false);
-    }
     match core.commit_put(0, ready, moment(now)) {
         Ok(_) => Ok(true),
         Err(_) => Ok(false),
@@ -107,7 +82,13 @@ fn fresh(alloc: Global) -> Result<Core<MemDisk, MapKeeper>, Fail>
         random: [0; 10],
     };
     let table = MapKeeper::new(alloc, Vec::new(alloc), generation, Vec::new(alloc))?;
-    match Core::fresh(alloc, disk, table, config(alloc)?, 1, 100) {
+    let opening = Opening {
+        config: config(alloc)?,
+        passes: 1,
+        undelete: false,
+        random: [0; 10],
+    };
+    match open_folder(alloc, disk, table, opening) {
         Ok(core) => Ok(core),
         Err(_) => Err(NoMemory)?,
     }

@@ -27,6 +27,7 @@ use Rattle.repo_core.specs.Faults.{of_disk}
 use Rattle.repo_core.proofs.Steps.{fault_denies}
 use Rattle.repo_core.proofs.Tables.{rows_same, rows_changed, still_told}
 use Rattle.repo_core.proofs.Runs.{nothing_ran, at_end}
+use Rattle.repo_core.proofs.Stays.{stay_same, stay_marked}
 use Rattle.repo_core.proofs.Givings.{crash_same, crash_marked, marks_done, agrees_same, agrees_gone, is_readable}
 use Rattle.repo_core.proofs.deleting.give_up_row.Goals as goal
 
@@ -167,3 +168,18 @@ returns-in-Err-stage-clause-whole g c = λ told some s a size found is.
     (λ fault. failed_is_no_damage (of_disk fault.0) size found (sym fault.1 ∙ denied_so c.in-Err-stage.why (denial.Damaged size found) (Err (stop.Denied c.in-Err-stage.why)) (Err (stop.Denied (denial.Damaged size found))) refl refl is))
     (λ bad. let r = is_readable config tree s a.files c.args.key.now c.in-Ok.asset may.0 in bad.1 told r.0 r.1 r.2 r.3)
     c.in-Err-stage.ensures.denied
+
+pub returns-in-Err-stage-clause-stays : goal.returns-in-Err-stage-clause-stays
+returns-in-Err-stage-clause-stays g c = λ told. stay_same (g.D.Disk.tree c.args.disk.now) (g.D.Disk.tree c.stage.new.disk) (c.stage.ensures.tree told)
+
+pub returns-in-Ok-show-clause-stays : goal.returns-in-Ok-show-clause-stays
+returns-in-Ok-show-clause-stays g c = λ told.
+    let tree = g.D.Disk.tree in
+    stay_marked (tree c.args.disk.now) (tree c.stage.new.disk) (tree c.show.new.disk) c.in-Ok-stage.staged.mark.files.place
+    (stay_same (tree c.args.disk.now) (tree c.stage.new.disk) (c.stage.ensures.tree told)) (c.show.ensures.rest told)
+
+pub returns-clause-stays : goal.returns-clause-stays
+returns-clause-stays g c = λ told.
+    let tree = g.D.Disk.tree in
+    stay_marked (tree c.args.disk.now) (tree c.stage.new.disk) (tree c.show.new.disk) c.in-Ok-stage.staged.mark.files.place
+    (stay_same (tree c.args.disk.now) (tree c.stage.new.disk) (c.stage.ensures.tree told)) (c.show.ensures.rest told)

@@ -10,13 +10,16 @@ use Rattle.asset_keeper.specs.Told.{Tells}
 use Rattle.asset_keeper.specs.declared.change.Change.{Change}
 use Rattle.asset_keeper.specs.declared.change.Change.TheVariants as change
 use Rattle.repo_model.specs.Plain.{config_of}
-use Rattle.tree_content.specs.Blobs.{props_at}
+use Rattle.blob_paths.specs.declared.ending.Ending.TheVariants.{Bytes}
+use Rattle.tree_content.specs.Blobs.{props_at, bytes_name}
+use Rattle.tree_content.proofs.Names.{outside}
 use Rattle.tree_content.specs.Files.{Creates}
 use Rattle.repo_core.specs.Rows.{rows_in}
 use Rattle.repo_core.specs.Puts.{put_call, IsPrepared}
 use Rattle.repo_core.proofs.Tables.{rows_same, rows_changed, still_told, tells_then}
 use Rattle.repo_core.proofs.Runs.{at_end, still_same}
 use Rattle.repo_core.proofs.Rises.{stopped_by_disk, not_by_keeper}
+use Rattle.repo_core.proofs.Stays.{bytes_apart, stay_same, stay_marked, stay_made, at_blob}
 use Rattle.repo_core.proofs.Givings.{crash_same, agrees_same}
 use Rattle.repo_core.proofs.Replacings.{settled_created}
 use Rattle.repo_core.proofs.Endings.{new_one, crash_one, crash_two, put_first, put_again}
@@ -244,3 +247,44 @@ pub returns-clause-keeper_cause : goal.returns-clause-keeper_cause
 returns-clause-keeper_cause g c =
     not_by_keeper (g.T.Keeper.faults c.args.table.now) (g.T.Keeper.faults c.show_new.new.table) c.in-Err-place.refusal c.disk_fault.result c.disk_fault.ensures
     (omega (arith, c.prepare.ensures.keeper_cause.later, c.show_new.ensures.keeper_cause.later))
+
+pub returns-in-Err-clause-stays : goal.returns-in-Err-clause-stays
+returns-in-Err-clause-stays g c = λ told.
+    let tree = g.D.Disk.tree in
+    stay_same (tree c.args.disk.now) (tree c.discard.new.self) (λ n out. c.discard.ensures.tree told n out ∙ c.prepare.ensures.tree told n out)
+
+pub returns-in-Err-show_new-clause-clean_rows : goal.returns-in-Err-show_new-clause-clean_rows
+returns-in-Err-show_new-clause-clean_rows g c =
+    tells_then _ _ _ (g.T.Keeper.table c.args.table.now) (g.T.Keeper.table c.prepare.new.table) (g.T.Keeper.table c.show_new.new.table)
+    (λ s t u first second denied. absurd (true≢false (sym denied))) c.prepare.ensures.rows c.in-Err-show_new.ensures.rows
+
+pub returns-in-Err-show_new-clause-stays : goal.returns-in-Err-show_new-clause-stays
+returns-in-Err-show_new-clause-stays g c = λ told.
+    let tree = g.D.Disk.tree in
+    stay_made (tree c.args.disk.now) (tree c.prepare.new.disk) (tree c.show_new.new.disk) c.in-Ok.staged.new c.in-Ok.ensures.placed (c.in-Ok.ensures.free told) (c.prepare.ensures.tree told) (c.show_new.ensures.rest told)
+
+pub returns-in_default-mark-clause-stays : goal.returns-in_default-mark-clause-stays
+returns-in_default-mark-clause-stays g c = λ told.
+    let tree = g.D.Disk.tree in
+    stay_made (tree c.args.disk.now) (tree c.prepare.new.disk) (tree c.show_new.new.disk) c.in-Ok.staged.new c.in-Ok.ensures.placed (c.in-Ok.ensures.free told) (c.prepare.ensures.tree told) (c.show_new.ensures.rest told)
+
+pub returns-in-Ok-place-clause-made : goal.returns-in-Ok-place-clause-made
+returns-in-Ok-place-clause-made g c = λ told.
+    let tree = g.D.Disk.tree in
+    let blob = c.in-Ok.staged.new.asset.blob in
+    c.place.ensures.rest told (bytes_name blob) (outside blob Bytes c.in-Ok.ensures.placed.ref) (bytes_apart blob c.in-Some.mark.files.place)
+    ∙ at_blob (tree c.show_new.new.disk) (Some (g.D.Writer.Writer.content c.args.file)) c.in-Ok.staged.new c.in-Ok.ensures.placed (c.in_default.ensures.bytes told)
+
+pub returns-in-Ok-place-clause-stays : goal.returns-in-Ok-place-clause-stays
+returns-in-Ok-place-clause-stays g c = λ told.
+    let tree = g.D.Disk.tree in
+    stay_marked (tree c.args.disk.now) (tree c.show_new.new.disk) (tree c.place.new.disk) c.in-Some.mark.files.place
+    (stay_made (tree c.args.disk.now) (tree c.prepare.new.disk) (tree c.show_new.new.disk) c.in-Ok.staged.new c.in-Ok.ensures.placed (c.in-Ok.ensures.free told) (c.prepare.ensures.tree told) (c.show_new.ensures.rest told))
+    (c.place.ensures.rest told)
+
+pub returns-clause-stays : goal.returns-clause-stays
+returns-clause-stays g c = λ told.
+    let tree = g.D.Disk.tree in
+    stay_marked (tree c.args.disk.now) (tree c.show_new.new.disk) (tree c.place.new.disk) c.in-Some.mark.files.place
+    (stay_made (tree c.args.disk.now) (tree c.prepare.new.disk) (tree c.show_new.new.disk) c.in-Ok.staged.new c.in-Ok.ensures.placed (c.in-Ok.ensures.free told) (c.prepare.ensures.tree told) (c.show_new.ensures.rest told))
+    (c.place.ensures.rest told)

@@ -7,12 +7,15 @@ use Rattle.repo_model.specs.State.{State}
 use Rattle.repo_model.specs.Plain.{config_of}
 use Rattle.repo_model.specs.History.{Follows}
 use Rattle.repo_core.specs.Agree.{Agrees}
+use Rattle.repo_core.specs.Standing.{AnswersAt}
 use Rattle.repo_core.specs.Answers.{reply_of, is_denied}
 use Rattle.repo_core.specs.Puts.{put_call, upload_of}
 use Rattle.repo_core.specs.Rows.{rows_in}
 use Rattle.repo_core.proofs.Runs.{nothing_ran, still_same}
 use Rattle.repo_core.proofs.Givings.{crash_same}
-use Rattle.repo_core.proofs.Finishings.{next_done, follows_broken, not_broke}
+use Rattle.repo_core.proofs.Stays.{stay_same}
+use Rattle.repo_core.proofs.Breaks.{broke_number, broke_disk, broke_keeper}
+use Rattle.repo_core.proofs.Finishings.{next_at, follows_broken, outcome_broken, not_broke}
 use Rattle.repo_core.proofs.Answering.{same_reply, if_refused, tells_map, if_taken}
 use Rattle.repo_core.proofs.repository.Core.commit_put.Goals as goal
 
@@ -39,6 +42,7 @@ returns-in-Some-clause-moves g c = rw (← c.self.view_is) (λ told some room ma
       s,
       (s, follows_broken (config_of core.config) (length core.journal.entries) c.args.caller s (put_call (upload_of c.args.ready) c.args.moment) c.in-Some.cause (tracks.broken ∙ broken), refl),
       record { broken = tracks.broken; agrees = λ none. absurd (let bad = sym broken ∙ none in cc) },
+      λ steady. outcome_broken (config_of core.config) s c.args.ready.store (put_call (upload_of c.args.ready) c.args.moment) c.in-Some.cause (tracks.broken ∙ broken),
     ))
 
 pub returns-clause-moves : goal.returns-clause-moves
@@ -51,7 +55,7 @@ returns-clause-moves g c = rw (← c.self.view_is) (λ told some room may are s 
     let asked = put_call (upload_of c.args.ready) c.args.moment in
     let agrees : State → Type 0 = Agrees config (g.D.Disk.tree new.disk) (rows_in (g.T.Keeper.table new.table)) new.own in
     let a = tracks.agrees none in
-    let next = next_done config (length core.journal.entries) c.args.caller s asked (λ kept. reply.Stored kept.asset) agrees done
+    let next = next_at config (length core.journal.entries) c.args.caller s c.args.ready.store asked (λ kept. reply.Stored kept.asset) agrees done
     c.answer_of.result c.cause_of-self-inside.result c.len.result c.answer_of.ensures c.cause_of-self-inside.ensures c.len.ensures refl a.sound (λ t at. at.sound)
     (c.put_content-done.ensures.ends told some may are s a) in
     let said : reply_of (λ kept. reply.Stored kept.asset) c.answer_of.result ≡ reply_of (λ asset. reply.Stored asset) c.stored-reply.result.1 =
@@ -59,6 +63,7 @@ returns-clause-moves g c = rw (← c.self.view_is) (λ told some room may are s 
       next.new,
       (next.new, subst (λ (r : Reply). Follows config (length core.journal.entries) s (record { caller = c.args.caller; call = asked; reply = r }) next.new) said next.follows, refl),
       record { broken = next.broken_is; agrees = next.agree },
+      subst (λ (r : Reply). AnswersAt config s c.args.ready.store asked r next.new) said next.at,
     ))
 
 pub returns-clause-crash : goal.returns-clause-crash
@@ -90,3 +95,22 @@ returns-in-Some-clause-broken_files g c = rw (← c.self.view_is) (λ told some.
     let clock = g.D.Disk.clock in
     let lists = g.D.Disk.lists in
     still_same clock lists disk disk c.discard-in-Some.new.self (nothing_ran clock lists disk) (c.discard-in-Some.ensures.time told) (c.discard-in-Some.ensures.crash told))
+
+pub returns-then-is_full-clause-stays : goal.returns-then-is_full-clause-stays
+returns-then-is_full-clause-stays g c = rw (← c.self.view_is) (λ told none. stay_same (g.D.Disk.tree c.self.inside.disk) (g.D.Disk.tree c.discard.new.self) (c.discard.ensures.tree told))
+
+pub returns-clause-stays : goal.returns-clause-stays
+returns-clause-stays g c = rw (← c.self.view_is) (λ told none. c.put_content-done.ensures.stays told)
+
+pub returns-clause-broke_disk : goal.returns-clause-broke_disk
+returns-clause-broke_disk g c = rw (← c.self.view_is) (λ cause none broke what.
+    broke_disk c.put_content-done.result c.len.result c.cause_of-self-inside.result c.cause_of-self-inside.ensures cause broke
+    (g.D.Disk.faults c.self.inside.disk) (g.D.Disk.faults c.put_content-done.new.disk) c.put_content-done.ensures.disk_cause what)
+
+pub returns-clause-broke_keeper : goal.returns-clause-broke_keeper
+returns-clause-broke_keeper g c = rw (← c.self.view_is) (λ cause none broke what.
+    broke_keeper c.put_content-done.result c.len.result c.cause_of-self-inside.result c.cause_of-self-inside.ensures cause broke
+    (g.T.Keeper.faults c.self.inside.table) (g.T.Keeper.faults c.put_content-done.new.table) c.put_content-done.ensures.keeper_cause what)
+
+pub returns-clause-number : goal.returns-clause-number
+returns-clause-number g c = rw (← c.self.view_is) (λ cause none broke. broke_number c.put_content-done.result c.len.result c.cause_of-self-inside.result c.cause_of-self-inside.ensures cause broke ∙ c.len.ensures)
