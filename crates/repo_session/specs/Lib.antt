@@ -1,1 +1,17 @@
+pub mod Devices
+pub mod Standing
+pub mod Leads
+pub mod Called
+pub mod Resting
+pub mod Turned
 pub mod Sending
+pub mod Giving
+pub mod Holding
+pub mod Drawing
+pub mod Uploading
+pub mod Answering
+pub mod Putting
+pub mod Beginning
+pub mod Saying
+pub mod Heads
+pub mod Feeding

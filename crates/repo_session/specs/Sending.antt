@@ -2,6 +2,8 @@
 use Rattle.std.specs.Prelude.{◌≡◌, ℕ, ◌≤◌, List, length, take, Result, Ok, Err}
 use Rattle.std.specs.declared.option.Option.{Option}
 use Rattle.std.specs.Io.KnownBytes.{Appends}
+use Rattle.http_front.specs.declared.replies.Unsaid.{Unsaid}
+use Rattle.http_front.specs.declared.replies.Unsaid.TheVariants.{WriteFault, DownloadFault}
 
 -- all of it, or a front of it
 abbrev pub Sent : {E : Type 0} → Option (List ℕ) → Option (List ℕ) → List ℕ → Result (Unit {0}) E → Type 0
@@ -11,3 +13,9 @@ Sent taken taken' answer (Err why) = (count : ℕ) × (count ≤ length answer) 
 -- the same of some bytes that meet P
 abbrev pub SentSome : {E : Type 0} → (List ℕ → Type 0) → Option (List ℕ) → Option (List ℕ) → Result (Unit {0}) E → Type 0
 SentSome P taken taken' result = (answer : List ℕ) × P answer × Sent taken taken' answer result
+
+-- only writing fails, and no download
+abbrev pub OnlyWriteFails : Result (Unit {0}) Unsaid → Type 0
+OnlyWriteFails (Ok x) = Unit {0}
+OnlyWriteFails (Err WriteFault) = Unit {0}
+OnlyWriteFails (Err DownloadFault) = ⊥

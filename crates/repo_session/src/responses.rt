@@ -3,7 +3,7 @@ ghost use Rattle.std.specs.Option.{option_copied};
 ghost use Rattle.http_heads.specs.Response.{head_of, why, refused_with};
 ghost use Rattle.http_front.specs.Replying.{HasSinkCause};
 ghost use Rattle.http_front.specs.Responses.{continue};
-ghost use Rattle.repo_session.specs.Sending.{Sent};
+ghost use Rattle.repo_session.specs.Sending.{Sent, OnlyWriteFails};
 
 use http_front::Unsaid;
 use http_heads::{RefusalWords, refusal_response, response_head};
@@ -14,6 +14,7 @@ use nx_io::{Failed, Sink, put_all};
 pub(crate) fn send<K: Sink>(output: &mut K, bytes: &[u8]) -> Result<(), Unsaid>
     ensures sent { Sent (K.taken output.old) (K.taken output.new) bytes.now result }
     ensures cause { HasSinkCause (K.faults output.old) (K.faults output.new) result }
+    ensures write { OnlyWriteFails result }
 {
     match put_all(output, bytes) {
         Ok(()) => Ok(()),
@@ -31,6 +32,7 @@ pub(crate) fn send_refusal<K: Sink>(
 ) -> Result<(), Unsaid>
     ensures sent { Sent (K.taken output.old) (K.taken output.new) (refused_with bare closes (why status words.now)) result }
     ensures cause { HasSinkCause (K.faults output.old) (K.faults output.new) result }
+    ensures write { OnlyWriteFails result }
 {
     let mut out = [0; 1024];
     let length = refusal_response(status, words.as_bytes(), bare, closes, &mut out);
@@ -41,6 +43,7 @@ pub(crate) fn send_refusal<K: Sink>(
 pub(crate) fn send_created<K: Sink>(output: &mut K, closes: bool) -> Result<(), Unsaid>
     ensures sent { Sent (K.taken output.old) (K.taken output.new) (head_of 201 None (Some 0) closes) result }
     ensures cause { HasSinkCause (K.faults output.old) (K.faults output.new) result }
+    ensures write { OnlyWriteFails result }
 {
     let mut head = [0; 1024];
     let length = response_head(201, None, Some(0), closes, &mut head);
@@ -51,6 +54,7 @@ pub(crate) fn send_created<K: Sink>(output: &mut K, closes: bool) -> Result<(), 
 pub(crate) fn send_gone<K: Sink>(output: &mut K, closes: bool) -> Result<(), Unsaid>
     ensures sent { Sent (K.taken output.old) (K.taken output.new) (head_of 204 None None closes) result }
     ensures cause { HasSinkCause (K.faults output.old) (K.faults output.new) result }
+    ensures write { OnlyWriteFails result }
 {
     let mut head = [0; 1024];
     let length = response_head(204, None, None, closes, &mut head);
@@ -61,6 +65,7 @@ pub(crate) fn send_gone<K: Sink>(output: &mut K, closes: bool) -> Result<(), Uns
 pub(crate) fn send_continue<K: Sink>(output: &mut K) -> Result<(), Unsaid>
     ensures sent { Sent (K.taken output.old) (K.taken output.new) continue result }
     ensures cause { HasSinkCause (K.faults output.old) (K.faults output.new) result }
+    ensures write { OnlyWriteFails result }
 {
     let mut head = [0; 1024];
     let length = response_head(100, None, None, false, &mut head);
@@ -76,6 +81,7 @@ pub(crate) fn send_found<K: Sink>(
 ) -> Result<(), Unsaid>
     ensures sent { Sent (K.taken output.old) (K.taken output.new) (head_of 200 (Some content_type.now) (Some size) closes) result }
     ensures cause { HasSinkCause (K.faults output.old) (K.faults output.new) result }
+    ensures write { OnlyWriteFails result }
 {
     let mut head = [0; 1024];
     let length = response_head(200, Some(content_type), Some(size), closes, &mut head);

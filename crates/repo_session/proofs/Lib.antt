@@ -1,0 +1,17 @@
+pub mod Makings
+pub mod Sayings
+pub mod TurnsMade
+pub mod TurnsSaid
+pub mod Sendings
+pub mod GivingOut
+pub mod Writings
+pub mod Uploads
+pub mod Denials
+pub mod Puttings
+pub mod HeadsSaid
+pub mod PutsSaid
+pub mod Held
+pub mod Leading
+pub mod Calling
+pub mod Gives
+pub mod Lookings
