@@ -15,3 +15,4 @@ pub mod Leading
 pub mod Calling
 pub mod Gives
 pub mod Lookings
+pub mod Replied
