@@ -15,3 +15,5 @@ pub mod Leading
 pub mod Calling
 pub mod Gives
 pub mod Lookings
+pub mod TurnsChained
+pub mod ChainTurns
