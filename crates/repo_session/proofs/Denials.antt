@@ -77,7 +77,7 @@ pub denial_said : {D T : Type 0} (devices : Devices D T) (old new : CoreView D T
 denial_said devices old new head why ends w taken taken' sent put called e words was only = record {
   answered = λ moment.
       refused_by (AnswersAll (λ item bytes. Turned devices old new moment item bytes ends) head) (DownloadFails devices old new) [] false ends w (why_refused why) taken taken' sent words
-          (upload_denied devices old new head why ends moment put called e) was only;
+      (upload_denied devices old new head why ends moment put called e) was only;
   goes_on = goes_on_unless head.closes (is_empty head.framing) ends e;
 }
 
@@ -122,7 +122,7 @@ pub no_memory_said : {D T : Type 0} (devices : Devices D T) (old new : CoreView 
 no_memory_said {D} {T} devices old new head w taken taken' sent put same words was only = record {
   answered = λ moment.
       refused_by (AnswersAll (λ item bytes. Turned devices old new moment item bytes true) head) (DownloadFails devices old new) [] false true w (why_stopped stops.NoMemory) taken taken' sent words
-          (subst (λ (core : CoreView D T). AnswersAll (λ item bytes. Turned devices old core moment item bytes true) head (refused_with false true (why_stopped stops.NoMemory))) (sym same)
-          (upload_not_asked devices old head moment put)) was only;
+      (subst (λ (core : CoreView D T). AnswersAll (λ item bytes. Turned devices old core moment item bytes true) head (refused_with false true (why_stopped stops.NoMemory))) (sym same)
+      (upload_not_asked devices old head moment put)) was only;
   goes_on = λ e. absurd (true≢false e);
 }

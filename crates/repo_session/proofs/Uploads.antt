@@ -85,12 +85,16 @@ upload_turn {D} {T} devices start mid new head store item stop moment put of end
   where
     entry : (length start.journal.entries < start.journal.room) × (begun.entries ≡ begin_entry head store ∷ [])
     entry = begun_entries _ _ head store begun.entries begun.made
+
     since : Since devices start mid (begin_entry head store ∷ [])
     since = subst (λ (l : List Entry). Since devices start mid l) entry.1 begun.since
+
     table : new.table ≡ mid.table
     table = ap (λ (v : CoreView D T). v.table) rests.same
+
     last : next_call sha1 moment item stop (begin_entry head store ∷ []) ≡ None
     last = rw ends refl
+
     leads : devices.told → IsSome (devices.table new.table) → (draws : ℕ → Moment) (state : State) (contents : Contents) → Stands devices start state contents
         → TurnLeads devices start new moment (record { request = item; stop = stop; entries = begin_entry head store ∷ [] }) draws state contents
     leads told is draws state contents stands =
@@ -140,7 +144,7 @@ pub stop_said : {D T : Type 0} (devices : Devices D T) (start mid new : CoreView
     → IsAnswered (AnswersAll (λ item bytes. Turned devices start new moment item bytes true) head) (DownloadFails devices mid new) (before_content head) taken taken' result
 stop_said devices start mid new head store why moment w part taken taken' result put begun rests faulty takes words sent only =
     refused_by (AnswersAll (λ item bytes. Turned devices start new moment item bytes true) head) (DownloadFails devices mid new) (before_content head) false true w (why_stopped (stop_of why)) taken taken' result words
-        (upload_stopped devices start mid new head store (stop_of why) moment put begun rests (stop_rose why _ _ part faulty takes)) sent only
+    (upload_stopped devices start mid new head store (stop_of why) moment put begun rests (stop_rose why _ _ part faulty takes)) sent only
 
 -- One whose content was refused is answered with that.
 pub upload_refused : {D T : Type 0} (devices : Devices D T) (start mid new : CoreView D T) (head : Head) (store content : List ℕ) (why : BodyErr) (moment : Moment)
@@ -163,7 +167,7 @@ pub refusal_said : {D T : Type 0} (devices : Devices D T) (start mid new : CoreV
     → IsAnswered (λ bytes. Turned devices start new moment (stopped head content why) bytes true) (DownloadFails devices mid new) (before_content head) taken taken' result
 refusal_said devices start mid new head store content why moment w taken taken' result put begun rests words sent only =
     refused_by (λ bytes. Turned devices start new moment (stopped head content why) bytes true) (DownloadFails devices mid new) (before_content head) false true w (why_body why) taken taken' result words
-        (upload_refused devices start mid new head store content why moment put begun rests) sent only
+    (upload_refused devices start mid new head store content why moment put begun rests) sent only
 
 -- To one that was cut nothing more is said.
 pub upload_cut : {D T : Type 0} (devices : Devices D T) (start mid new : CoreView D T) (head : Head) (store content : List ℕ) (moment : Moment)

@@ -10,6 +10,8 @@ returns-then-is_empty-clause-turned g c = λ start put begun.
     (t.0, at_item _ _ _ _ _ _ _ _ (unread_whole c.args.head.now (sym c.is_empty.ensures ∙ c.if-is_empty.true)) t.1)
 
 pub returns-clause-turned : goal.returns-clause-turned
-returns-clause-turned g c = λ start put begun.
-    ([], at_item _ _ _ _ _ _ _ _ (unread_cut c.args.head.now (sym c.is_empty.ensures ∙ c.if-is_empty.false))
-    (with_nothing _ _ _ _ _ _ _ (c.cut_upload.ensures.cut start c.args.head.now begun.store c.args.moment [] put begun.begun)))
+returns-clause-turned g c = λ start put begun. (
+  [],
+  at_item _ _ _ _ _ _ _ _ (unread_cut c.args.head.now (sym c.is_empty.ensures ∙ c.if-is_empty.false))
+      (with_nothing _ _ _ _ _ _ _ (c.cut_upload.ensures.cut start c.args.head.now begun.store c.args.moment [] put begun.begun)),
+)

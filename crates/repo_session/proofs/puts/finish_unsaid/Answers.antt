@@ -3,9 +3,10 @@ use Rattle.repo_session.proofs.puts.finish_unsaid.Goals as goal
 
 pub returns-in-Answered-clause-turned : goal.returns-in-Answered-clause-turned
 returns-in-Answered-clause-turned g c = λ start head content same put begun.
-    let result = c.in-Answered._result in
-    (put_response result c.args.closes,
-    turned_put _ start _ c.args.moment head content result c.args.closes same put (c.in-Answered.ensures.put start head content put begun))
+    let result = c.in-Answered._result in (
+      put_response result c.args.closes,
+      turned_put _ start _ c.args.moment head content result c.args.closes same put (c.in-Answered.ensures.put start head content put begun),
+    )
 
 pub returns-in-Stopped-clause-turned : goal.returns-in-Stopped-clause-turned
 returns-in-Stopped-clause-turned g c = λ start head content same put begun.
