@@ -1,4 +1,4 @@
-use Rattle.std.proofs.Common.{◌≡◌, ℕ, List, Some, None, IfOk, OnErr, Result, Err, refl, sym, ap, subst}
+use Rattle.std.proofs.Common.{◌≡◌, ℕ, List, Some, None, IfOk, OnErr, Result, sym, ap, subst}
 use Rattle.nx_base.specs.declared.asset.Asset.{Asset}
 use Rattle.disk_model.specs.Disk.{Same}
 use Rattle.tree_content.specs.Blobs.{bytes_name}

@@ -1,9 +1,6 @@
-use Rattle.std.proofs.Common.{◌≡◌, [], Option, Some, None, OnErr, refl, sym, ap, subst}
+use Rattle.std.proofs.Common.{◌≡◌, [], None, OnErr, refl, sym, ap, subst}
 use Rattle.repo_model.specs.declared.call.Call.TheVariants as call
 use Rattle.repo_model.specs.declared.reply.Reply.TheVariants as reply
-use Rattle.repo_model.specs.State.{State}
-use Rattle.http_front.specs.Contents.{Contents}
-use Rattle.asset_keeper.specs.Table.{Table}
 use Rattle.repo_core.specs.View.{CoreView}
 use Rattle.repo_core.specs.Answers.{reply_of}
 use Rattle.repo_core.proofs.Tables.{still_told}

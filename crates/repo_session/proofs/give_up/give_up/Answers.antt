@@ -1,6 +1,5 @@
 -- An upload without content is whole, another one is cut.
-use Rattle.std.proofs.Common.{[], ◌++◌, List, ℕ, true, refl, sym, ◌∙◌, subst, append-nil}
-use Rattle.repo_session.specs.Uploading.{before_content}
+use Rattle.std.proofs.Common.{[], refl, sym, ◌∙◌}
 use Rattle.repo_session.proofs.HeadsSaid.{at_item, with_nothing, unread_whole, unread_cut}
 use Rattle.repo_session.proofs.give_up.give_up.Goals as goal
 
