@@ -74,8 +74,10 @@ not_told {D} {T} {W} devices told written old new moment head t t' unsaid (head_
   where
     all : before_content head ≡ continue
     all = rw expects refl
+
     front_within : count ≤ length (before_content head ++ bytes)
     front_within = omega (arith, length-append (before_content head) bytes, ap length all, le)
+
     front_is : take count continue ≡ take count (before_content head ++ bytes)
     front_is = ap (take count) (sym all) ∙ sym (take-append-le count (before_content head) bytes (omega (arith, ap length all, le)))
 

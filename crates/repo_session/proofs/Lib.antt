@@ -16,3 +16,5 @@ pub mod Calling
 pub mod Gives
 pub mod Lookings
 pub mod Replied
+pub mod TurnsChained
+pub mod ChainTurns

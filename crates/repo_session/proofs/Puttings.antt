@@ -157,7 +157,7 @@ pub sealed_put : {D T W S : Type 0} (devices : Devices D T) (told : Type 0) (wri
     → ((bytes : List ℕ) → HasTaken told written upload bytes → IsReady told bytes_in ready bytes) → (devices.told → told)
     → Rests devices core rest
     → (MayGo (config_of rest.config) ready.begin.key ready.store → (bytes : List ℕ) → (devices.told → AreBytes (upload_of ready) bytes × (bytes_in ready.file ≡ bytes))
-        → Called devices rest new (core_put (upload_of ready) moment) ready.store said (λ contents. with_content said bytes contents))
+    → Called devices rest new (core_put (upload_of ready) moment) ready.store said (λ contents. with_content said bytes contents))
     → IsPutReply result said
     → IsPut devices start new moment head content result
 sealed_put {D} {T} {W} {S} devices told written bytes_in start core rest new moment head content upload ready said result put begun target is_ready tells rests calls answers =
