@@ -1,24 +1,17 @@
 -- What a session's methods make of the answers of its core.
-use Rattle.std.proofs.Common.{◌≡◌, inl, inr, ℕ, ◌+◌, ◌-◌, ◌<◌, ◌≤◌, Bool, true, false, List, [], ◌++◌, length, min, replicate, Option, Some, None, Result, Ok, Err, refl, sym, ap, ◌∙◌, subst, arith, append-nil}
+use Rattle.std.proofs.Common.{◌≡◌, inl, ℕ, ◌+◌, ◌-◌, ◌<◌, Bool, true, false, List, [], ◌++◌, length, min, replicate, Option, Some, None, Result, Ok, Err, refl, sym, ap, ◌∙◌, subst, arith, append-nil}
 use Rattle.std.specs.Prelude.{slice_get, unwrap_or}
 use Rattle.std.specs.Option.{option_map}
-use Rattle.std.specs.Io.KnownBytes.{Appends}
-use Rattle.std.proofs.KnownBytes.{Appends-nil}
 use Rattle.nx_base.specs.declared.moment.Moment.{Moment}
 use Rattle.blob_files.specs.declared.upload.Upload.{Upload}
 use Rattle.http_heads.specs.declared.head.Head.{Head}
 use Rattle.http_heads.specs.declared.head_err.HeadErr.{HeadErr}
 use Rattle.http_heads.specs.Head.{is_put}
-use Rattle.http_heads.specs.Response.{Why, why_head, refused_with}
+use Rattle.http_heads.specs.Response.{why_head, refused_with}
 use Rattle.http_requests.specs.Requests.{Item, refused, cut}
-use Rattle.http_front.specs.Asking.{IsOf}
-use Rattle.http_front.specs.Answers.{response_of, last_refusal}
-use Rattle.http_front.specs.Turns.{Turn, contents_after}
-use Rattle.http_front.specs.Replying.{IsAnswered, IsPart, AnswersAll, Begins, Finishes, Feeds, EndsAtLast}
-use Rattle.http_front.specs.declared.begun.Begun.{Begun}
-use Rattle.http_front.specs.declared.begun.Begun.TheVariants as begun
+use Rattle.http_front.specs.Answers.{response_of}
+use Rattle.http_front.specs.Replying.{IsAnswered, AnswersAll, Finishes, Feeds}
 use Rattle.http_front.specs.declared.fed.Fed.{Fed}
-use Rattle.http_front.specs.declared.fed.Fed.TheVariants as fed
 use Rattle.http_front.specs.declared.replies.Unsaid.{Unsaid}
 use Rattle.http_front.specs.declared.replies.Unsaid.TheVariants.{WriteFault, DownloadFault}
 use Rattle.nx_io.specs.Causes.{Rose}
@@ -32,9 +25,8 @@ use Rattle.repo_session.specs.declared.open_upload.OpenUpload.{OpenUpload}
 use Rattle.repo_session.specs.Devices.{Devices}
 use Rattle.repo_session.specs.Drawing.{draw_of, HasDrawn}
 use Rattle.repo_session.specs.Uploading.{before_content}
-use Rattle.repo_session.specs.Called.{Since}
 use Rattle.repo_session.specs.Saying.{fed_of}
-use Rattle.repo_session.specs.Turned.{Turned, TurnMade, DownloadFails}
+use Rattle.repo_session.specs.Turned.{Turned, DownloadFails}
 use Rattle.repo_session.specs.Answering.{SessionView, Answered, HasBegun, IsBegun, UploadWaits, RequestWaits, Waits, WaitsFor}
 
 -- that moment was drawn, the next one
@@ -45,7 +37,7 @@ pub drew : (old new : Draws) (moment : Moment) → slice_get old.moments.items o
     → new.next ≡ min (old.next + 1) (length old.moments.items - 1) → Drew old new moment
 drew old new moment value same next = λ moments n h. (
   let here : slice_get moments (min n (length moments - 1)) ≡ Some moment = sym (ap (λ (l : List Moment). slice_get l old.next) h.all ∙ ap (slice_get moments) h.next) ∙ value in
-  sym (ap (λ (o : Option Moment). unwrap_or o (record { now = 0; random = replicate 10 0 })) here),
+      sym (ap (λ (o : Option Moment). unwrap_or o (record { now = 0; random = replicate 10 0 })) here),
   record { all = same ∙ h.all; next = omega (arith, next, h.next, ap length h.all) },
 )
 

@@ -64,12 +64,7 @@ impl<D: Disk, T: Keeper> Replies for Answering<D, T, D::Writer> {
 
     ghost is_over = { λ x. x.over };
 
-    fn refused<K: Sink>(
-        &mut self,
-        why: HeadErr,
-        bare: bool,
-        output: &mut K,
-    ) -> Result<(), Unsaid> {
+    fn refused<K: Sink>(&mut self, why: HeadErr, bare: bool, output: &mut K) -> Result<(), Unsaid> {
         self.draws.draw();
         self.over = true;
         let (status, word) = why.answer();

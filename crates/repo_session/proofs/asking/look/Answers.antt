@@ -1,4 +1,4 @@
-use Rattle.std.proofs.Common.{◌≡◌, [], None, OnErr, refl, sym, subst}
+use Rattle.std.proofs.Common.{◌≡◌, [], None, OnErr, refl, ap, sym, subst}
 use Rattle.repo_model.specs.declared.call.Call.TheVariants as call
 use Rattle.repo_model.specs.declared.call.RemoteSaid.TheVariants as remote
 use Rattle.repo_core.specs.View.{CoreView}

@@ -1,6 +1,5 @@
 -- The upload that waited is cut.
-use Rattle.std.proofs.Common.{List, ℕ, ap, sym, ◌∙◌, subst}
-use Rattle.http_requests.specs.Requests.{cut}
+use Rattle.std.proofs.Common.{sym}
 use Rattle.repo_session.proofs.Replied.{drew, upload_waits, kept_view, cut_waits}
 use Rattle.repo_session.proofs.answering.AnsweringWriterReplies.cut.Goals as goal
 
