@@ -1,23 +1,17 @@
 -- Requests that a session answered one after another were answered by turns.
-use Rattle.std.proofs.Common.{◌≡◌, ◌⊎◌, inl, inr, ℕ, ◌+◌, Bool, true, false, List, [], ◌∷◌, ◌++◌, length, IsSome, refl, sym, ap, ◌∙◌, subst, arith}
-use Rattle.nx_io.specs.Causes.{Rose}
+use Rattle.std.proofs.Common.{◌≡◌, ◌⊎◌, inl, inr, ℕ, ◌+◌, Bool, true, false, List, [], ◌∷◌, length, refl, sym, ap, ◌∙◌, subst, arith}
 use Rattle.nx_base.specs.declared.moment.Moment.{Moment}
-use Rattle.repo_model.specs.State.{State}
-use Rattle.http_heads.specs.declared.head.Head.{Head}
 use Rattle.http_heads.specs.Head.{is_put}
 use Rattle.http_requests.specs.Requests.{Item}
 use Rattle.http_front.specs.Chains.{Answering, Chain, ChainsPast}
-use Rattle.http_front.specs.Contents.{Contents}
 use Rattle.http_front.specs.Handing.{FailsSince}
 use Rattle.http_front.specs.Sessions.{ChainFails}
 use Rattle.http_front.specs.Turns.{Turn, requests_of}
-use Rattle.repo_core.specs.View.{CoreView}
 use Rattle.repo_session.specs.Answering.{SessionView, Answered, Waits, WaitsFor}
 use Rattle.repo_session.specs.Devices.{Devices}
 use Rattle.repo_session.specs.Drawing.{HasDrawn}
-use Rattle.repo_session.specs.Standing.{Stands}
 use Rattle.repo_session.specs.Turned.{DownloadFails}
-use Rattle.repo_session.specs.Serving.{RunsFrom, HasTurnsFrom, HasTurns, HasTurnsPast}
+use Rattle.repo_session.specs.Serving.{HasTurnsFrom, HasTurnsPast}
 use Rattle.repo_session.proofs.TurnsMade.{rose_before}
 use Rattle.repo_session.proofs.TurnsChained.{runs_none, runs_more}
 

@@ -17,3 +17,4 @@ pub mod Gives
 pub mod Lookings
 pub mod TurnsChained
 pub mod ChainTurns
+pub mod Replied

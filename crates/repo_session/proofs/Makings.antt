@@ -1,5 +1,5 @@
 -- The calls of a request, made one after another.
-use Rattle.std.proofs.Common.{◌≡◌, ◌⊎◌, inl, inr, ℕ, ◌+◌, ◌<◌, ◌≤◌, Bool, true, false, List, [], ◌∷◌, ◌++◌, length, Option, Some, None, refl, sym, ap, ◌∙◌, subst, arith}
+use Rattle.std.proofs.Common.{◌≡◌, inl, inr, ℕ, ◌+◌, ◌<◌, List, [], ◌∷◌, Option, Some, None, refl, sym, subst}
 use Rattle.nx_base.specs.declared.moment.Moment.{Moment}
 use Rattle.repo_model.specs.declared.call.Call.{Call}
 use Rattle.repo_model.specs.declared.entry.Entry.{Entry}
@@ -8,7 +8,7 @@ use Rattle.repo_model.specs.State.{State}
 use Rattle.http_requests.specs.Requests.{Item}
 use Rattle.http_front.specs.declared.stop.Stop.{Stop}
 use Rattle.http_front.specs.Calls.{next_call, store_in}
-use Rattle.http_front.specs.Turns.{Setting, FollowsAt, IsNextEntry, Makes}
+use Rattle.http_front.specs.Turns.{Setting, FollowsAt, Makes}
 use Rattle.repo_session.specs.Leads.{IsEntryOf, LeadsBy}
 
 -- the entry of a call

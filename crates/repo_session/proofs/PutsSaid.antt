@@ -12,7 +12,6 @@ use Rattle.http_heads.specs.Response.{Why, head_of, refused_with}
 use Rattle.http_requests.specs.Requests.{whole}
 use Rattle.http_front.specs.declared.replies.Unsaid.{Unsaid}
 use Rattle.http_front.specs.Answers.{Answer, behind, reply_to, last_reply}
-use Rattle.http_front.specs.Asking.{is_head}
 use Rattle.http_front.specs.Contents.{Contents}
 use Rattle.http_front.specs.Replying.{IsAnswered, AnswersAll}
 use Rattle.http_front.specs.Responses.{why_refused, why_stopped}
@@ -23,7 +22,7 @@ use Rattle.repo_session.specs.Resting.{Rests}
 use Rattle.repo_session.specs.Sending.{Sent, OnlyWriteFails}
 use Rattle.repo_session.specs.Uploading.{before_content}
 use Rattle.repo_session.specs.Answering.{HasBegun, stop_of}
-use Rattle.repo_session.specs.Turned.{Turned, DownloadFails}
+use Rattle.repo_session.specs.Turned.{Turned}
 use Rattle.repo_session.specs.Putting.{IsPut, IsPutReply}
 use Rattle.repo_session.proofs.Sayings.{answer_put, put_is_no_head}
 use Rattle.repo_session.proofs.Uploads.{upload_stopped, stop_rose}

@@ -1,8 +1,7 @@
 -- The turn of an upload that came whole and was put.
-use Rattle.std.proofs.Common.{◌≡◌, inl, inr, ℕ, ◌+◌, ◌<◌, ◌≤◌, Bool, true, false, List, [], ◌∷◌, ◌++◌, length, Option, Some, None, IsSome, Result, Ok, Err, refl, sym, ap, ◌∙◌, subst, arith, append_assoc, length-append, unwrap_or}
+use Rattle.std.proofs.Common.{◌≡◌, ℕ, ◌+◌, ◌<◌, ◌≤◌, true, false, List, [], ◌∷◌, ◌++◌, length, Option, Some, None, IsSome, Result, Ok, Err, refl, sym, ap, ◌∙◌, subst, arith, append_assoc, length-append, unwrap_or}
 use Rattle.sha1.specs.Sha1.{sha1}
-use Rattle.nx_io.specs.Causes.{Rose, RoseBy}
-use Rattle.nx_base.specs.declared.asset.Asset.{Asset}
+use Rattle.nx_io.specs.Causes.{Rose}
 use Rattle.nx_base.specs.declared.key.Key.{Key}
 use Rattle.nx_base.specs.declared.moment.Moment.{Moment}
 use Rattle.blob_files.specs.declared.upload.Target.{Target}
@@ -13,8 +12,6 @@ use Rattle.repo_model.specs.declared.call.Call.{Call}
 use Rattle.repo_model.specs.declared.call.Call.TheVariants as call
 use Rattle.repo_model.specs.declared.entry.Entry.{Entry}
 use Rattle.repo_model.specs.declared.reply.Cause.{Cause}
-use Rattle.repo_model.specs.declared.reply.Fault.{Fault}
-use Rattle.repo_model.specs.declared.reply.Fault.TheVariants as fault
 use Rattle.repo_model.specs.declared.reply.Refusal.{Refusal}
 use Rattle.repo_model.specs.declared.reply.Reply.{Reply}
 use Rattle.repo_model.specs.declared.reply.Reply.TheVariants as reply
@@ -27,8 +24,8 @@ use Rattle.repo_model.specs.Plain.{config_of}
 use Rattle.repo_model.specs.State.{State}
 use Rattle.http_heads.specs.declared.head.Head.{Head}
 use Rattle.http_heads.specs.Head.{is_put}
-use Rattle.http_requests.specs.Requests.{Item, whole}
-use Rattle.http_front.specs.Answers.{last_reply, has_begun}
+use Rattle.http_requests.specs.Requests.{whole}
+use Rattle.http_front.specs.Answers.{last_reply}
 use Rattle.http_front.specs.Calls.{put_call}
 use Rattle.http_front.specs.Contents.{Contents, with_content}
 use Rattle.http_front.specs.Served.{Serves}
@@ -42,9 +39,9 @@ use Rattle.repo_session.specs.Called.{Since, Called}
 use Rattle.repo_session.specs.Resting.{Rests}
 use Rattle.repo_session.specs.Uploading.{begin_of}
 use Rattle.repo_session.specs.Answering.{HasBegun, IsBegun}
-use Rattle.repo_session.specs.Turned.{disk_faults_in, keeper_faults_in, setting_of, TurnMade, TurnLeads}
+use Rattle.repo_session.specs.Turned.{setting_of, TurnMade, TurnLeads}
 use Rattle.repo_session.specs.Putting.{IsPut, IsPutReply}
-use Rattle.repo_session.proofs.Makings.{said_to, makes_two}
+use Rattle.repo_session.proofs.Makings.{makes_two}
 use Rattle.repo_session.proofs.Sayings.{last_of_two}
 use Rattle.repo_session.proofs.TurnsMade.{rose_later, rose_before, since_rests, told_before, disk_of_call, keeper_of_call}
 use Rattle.repo_session.proofs.Uploads.{begin_entry, begun_entries, asks_begin}

@@ -8,7 +8,7 @@ use Rattle.repo_model.specs.Journal.{JournalView}
 use Rattle.repo_model.specs.Plain.{config_of}
 use Rattle.repo_model.specs.State.{State}
 use Rattle.http_front.specs.Contents.{Contents}
-use Rattle.http_front.specs.Turns.{Setting, Turn, Makes, IsTurn, AreTurns, contents_after, answer_of, entries_of}
+use Rattle.http_front.specs.Turns.{Setting, Turn, Makes, AreTurns, contents_after, answer_of, entries_of}
 use Rattle.repo_core.specs.View.{CoreView}
 use Rattle.repo_session.specs.Devices.{Devices}
 use Rattle.repo_session.specs.Standing.{Stands}

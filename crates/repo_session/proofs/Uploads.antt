@@ -1,13 +1,10 @@
 -- The turn of an upload that was begun and not put.
-use Rattle.std.proofs.Common.{◌≡◌, ◌⊎◌, inl, inr, ℕ, ◌+◌, ◌<◌, ◌≤◌, Bool, true, false, ◌&&◌, if◌then◌else◌, List, [], ◌∷◌, ◌++◌, length, Option, Some, None, IsSome, Result, refl, sym, ap, ◌∙◌, subst, arith, append-nil}
+use Rattle.std.proofs.Common.{◌≡◌, inl, inr, ℕ, ◌<◌, true, false, List, [], ◌∷◌, ◌++◌, length, Option, Some, None, IsSome, Result, refl, sym, ap, ◌∙◌, subst, arith, append-nil}
 use Rattle.sha1.specs.Sha1.{sha1}
-use Rattle.nx_io.specs.Causes.{Rose, RoseBy}
+use Rattle.nx_io.specs.Causes.{RoseBy}
 use Rattle.nx_base.specs.declared.moment.Moment.{Moment}
-use Rattle.repo_model.specs.declared.call.Call.{Call}
 use Rattle.repo_model.specs.declared.call.Call.TheVariants as call
 use Rattle.repo_model.specs.declared.entry.Entry.{Entry}
-use Rattle.repo_model.specs.declared.reply.Refusal.{Refusal}
-use Rattle.repo_model.specs.declared.reply.Reply.{Reply}
 use Rattle.repo_model.specs.declared.reply.Reply.TheVariants as reply
 use Rattle.repo_model.specs.declared.transfer.UploadErr.{UploadErr}
 use Rattle.repo_model.specs.declared.transfer.UploadErr.TheVariants as errors
@@ -21,8 +18,7 @@ use Rattle.http_heads.specs.Head.{is_put}
 use Rattle.http_heads.specs.Response.{Why, why_body, refused_with}
 use Rattle.http_requests.specs.Requests.{Item, refused, whole, stopped, cut}
 use Rattle.http_front.specs.declared.stop.Stop.{Stop}
-use Rattle.http_front.specs.declared.stop.Stop.TheVariants as stops
-use Rattle.http_front.specs.Answers.{Answer, behind, last_refusal, silence, full, last_reply}
+use Rattle.http_front.specs.Answers.{Answer}
 use Rattle.http_front.specs.Asking.{IsOf}
 use Rattle.http_front.specs.Calls.{call_of, first_call, next_call}
 use Rattle.http_front.specs.Contents.{Contents}
@@ -34,11 +30,11 @@ use Rattle.repo_core.specs.View.{CoreView}
 use Rattle.repo_session.specs.Devices.{Devices}
 use Rattle.repo_session.specs.Standing.{Stands}
 use Rattle.repo_session.specs.Leads.{IsEntryOf, LeadsBy}
-use Rattle.repo_session.specs.Called.{Since, Called}
+use Rattle.repo_session.specs.Called.{Since}
 use Rattle.repo_session.specs.Resting.{Rests}
 use Rattle.repo_session.specs.Uploading.{begin_of, before_content}
 use Rattle.repo_session.specs.Answering.{HasBegun, stop_of}
-use Rattle.repo_session.specs.Turned.{setting_of, stop_faults, TurnMade, TurnLeads, IsAnswer, Turned, DownloadFails}
+use Rattle.repo_session.specs.Turned.{setting_of, stop_faults, TurnMade, TurnLeads, Turned, DownloadFails}
 use Rattle.repo_session.specs.Sending.{Sent, OnlyWriteFails}
 use Rattle.repo_session.proofs.Makings.{said_to, makes_one}
 use Rattle.repo_session.proofs.Sayings.{answer_stop, answer_stopped, answer_cut}

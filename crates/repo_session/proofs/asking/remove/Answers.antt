@@ -31,5 +31,5 @@ returns-clause-called g c =
     leads_plain on old new s contents (call.Delete c.args.key c.args.moment.now) (reply_of (λ _. reply.Gone) c.delete.result) tt refl
     (stores_nothing (λ _. reply.Gone) c.delete.result (λ v made e. cc))
     (done.moves told some room s stands.tracks) stands
-    (was_sound on old new (λ cause is. ap (λ (core : CoreView g.row.D.Denot g.row.T.Denot). core.broken) (done.broken cause room is).1))
+    (was_sound on old new (λ cause is. λ i. record ((done.broken cause room is).1 i) { disk = new.disk }))
     (done.stays told))
