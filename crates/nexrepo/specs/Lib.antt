@@ -1,2 +1,6 @@
 pub mod Statuses
 pub mod Commands
+pub mod Configs
+pub mod Ends
+pub mod Opening
+pub mod Running
