@@ -13,7 +13,7 @@ use Rattle.http_requests.specs.Requests.{Item, AreRequests}
 use Rattle.http_front.specs.Reading.{MetEnd, MetRefusal, HasNoRequest}
 use Rattle.http_front.specs.Chains.{Answering, Chain, ChainsPast}
 use Rattle.http_front.specs.Replying.{IsPart, IsAnswered}
-use Rattle.http_front.specs.Sessions.{HasSaid, HasSaidFirst, HasSaidOf, HasSaidPart, HasStopped, ends_session, HasClosed, EndsAs, halt_end, unsaid_end, result_end, input_end}
+use Rattle.http_front.specs.Sessions.{ends_session, ChainEndsAs, halt_end, unsaid_end, result_end, input_end}
 use Rattle.http_front.specs.declared.halt.Halt.{Halt}
 use Rattle.http_front.specs.declared.halt.Halt.TheVariants as halts
 use Rattle.http_front.specs.declared.replies.Unsaid.{Unsaid}
@@ -21,6 +21,7 @@ use Rattle.http_front.specs.declared.replies.Unsaid.TheVariants as unsaid
 use Rattle.http_requests.specs.Heads.{IsRefused}
 use Rattle.http_front.specs.Asking.{is_last}
 use Rattle.http_front.proofs.Chained.{Chain-one, Chain-append, Chain-past, front_of}
+use Rattle.http_front.proofs.ChainEnds.{HasSaid, HasSaidFirst, HasSaidOf, HasSaidPart, HasStopped, HasClosed}
 use Rattle.http_front.proofs.Runs.{Runs, Took, all_read, read_behind, taken_holds, stands_first}
 
 pub within_all : (read came : List ℕ) (total : ℕ) → length read ≡ total → total ≤ input_limit → IsWithin total came → length (read ++ came) ≤ input_limit
@@ -128,14 +129,14 @@ part_said Answers is_over x y z a b c t u v old came more rest item inside r m e
 -- the request was answered in part alone
 pub unsaid_ends : {A : Type 0} (Answers : Answering A) (Fails : A → A → Type 0) (is_over : A → Bool) (x y z : A) (a b c t u v : Option (List ℕ)) (e : Bool) (old : Pending) (came more rest : List ℕ) (item : Item) (inside : Bool) (why : Unsaid)
     → (r : Runs Answers is_over x y a b t u old) → Consumes b c came → old.waiting ++ came ≡ more ++ rest → AreRequests more (item ∷ []) inside → IsAnswered (Answers y z item) ((mid : A) × Fails mid z) [] u v (Err why)
-    → EndsAs Answers Fails is_over (unsaid_end why) x z a c e t v
+    → ChainEndsAs Answers Fails is_over (unsaid_end why) x z a c e t v
 unsaid_ends Answers Fails is_over x y z a b c t u v e old came more rest item inside unsaid.WriteFault r m parts h p = part_said Answers is_over x y z a b c t u v old came more rest item inside r m parts h p
 unsaid_ends Answers Fails is_over x y z a b c t u v e old came more rest item inside unsaid.DownloadFault r m parts h (p, fails) =
     (part_said Answers is_over x y z a b c t u v old came more rest item inside r m parts h p, fails)
 
 -- a halt where no request stands in the bytes
 pub halt_said : {A : Type 0} (Answers : Answering A) (Fails : A → A → Type 0) (is_over : A → Bool) (x y : A) (a b c t u : Option (List ℕ)) (e : Bool) (old : Pending) (m n : ℕ) (h : Halt)
-    → Runs Answers is_over x y a b t u old → Halts (HasNoRequest old) b c old.total m n h → EndsAs Answers Fails is_over (halt_end h) x y a c e t u
+    → Runs Answers is_over x y a b t u old → Halts (HasNoRequest old) b c old.total m n h → ChainEndsAs Answers Fails is_over (halt_end h) x y a c e t u
 halt_said Answers Fails is_over x y a b c t u e old m n halts.ReadFault r (came, k, (inside, s), i, rose) =
     (inside, all_said Answers is_over x y y a b c t u u old came [] [] inside r k i s (refl, refl) (Appends-nil u))
 halt_said Answers Fails is_over x y a b c t u e old m n halts.InputTooLong r (came, over, some, k, full, (inside, s)) =
@@ -149,7 +150,7 @@ ended Answers is_over x y a b c t u e old inside r m =
     (all_said Answers is_over x y y a b c t u u old m.came [] [] inside r m.consumed m.within m.stands (refl, refl) (Appends-nil u), m.at_end, m.told)
 
 pub input_ended : {A : Type 0} (Answers : Answering A) (Fails : A → A → Type 0) (is_over : A → Bool) (x y : A) (a b c t u : Option (List ℕ)) (e : Bool) (old : Pending) (inside : Bool)
-    → Runs Answers is_over x y a b t u old → MetEnd b c e old.total (λ came. AreRequests (old.waiting ++ came) [] inside) → EndsAs Answers Fails is_over (input_end inside) x y a c e t u
+    → Runs Answers is_over x y a b t u old → MetEnd b c e old.total (λ came. AreRequests (old.waiting ++ came) [] inside) → ChainEndsAs Answers Fails is_over (input_end inside) x y a c e t u
 input_ended Answers Fails is_over x y a b c t u e old true r m = ended Answers is_over x y a b c t u e old true r m
 input_ended Answers Fails is_over x y a b c t u e old false r m = ended Answers is_over x y a b c t u e old false r m
 
@@ -189,7 +190,7 @@ all_stopped Answers is_over x y z a b c t u v old new asked content answer r k g
 -- it was answered, or in part
 pub result_ends : {A : Type 0} (Answers : Answering A) (Fails : A → A → Type 0) (is_over : A → Bool) (x y z : A) (a b c t u v : Option (List ℕ)) (e : Bool) (old : Pending) (came : List ℕ) (item : Item) (result : Result (Unit {0}) Unsaid)
     → Runs Answers is_over x y a b t u old → Consumes b c came → IsWithin old.total came → AreRequests (old.waiting ++ came) (item ∷ []) false → is_last item ≡ true
-    → IsAnswered (Answers y z item) ((mid : A) × Fails mid z) [] u v result → OnOk result (is_over z ≡ true) → EndsAs Answers Fails is_over (result_end result) x z a c e t v
+    → IsAnswered (Answers y z item) ((mid : A) × Fails mid z) [] u v result → OnOk result (is_over z ≡ true) → ChainEndsAs Answers Fails is_over (result_end result) x z a c e t v
 result_ends Answers Fails is_over x y z a b c t u v e old came item (Ok k) r m i h l (answer, is, w) over = all_closed Answers is_over x y z a b c t u v old came answer item r m i h is w l over
 result_ends Answers Fails is_over x y z a b c t u v e old came item (Err why) r m i h l p over =
     unsaid_ends Answers Fails is_over x y z a b c t u v e old came (old.waiting ++ came) [] item false why r m (sym (append-nil (old.waiting ++ came))) h p
@@ -197,7 +198,7 @@ result_ends Answers Fails is_over x y z a b c t u v e old came item (Err why) r 
 -- a refused head ends the session
 pub refused : {A : Type 0} (Answers : Answering A) (Fails : A → A → Type 0) (is_over : A → Bool) (x y z : A) (a b c t u v : Option (List ℕ)) (e : Bool) (old : Pending) (why : HeadErr) (bare : Bool) (result : Result (Unit {0}) Unsaid)
     → Runs Answers is_over x y a b t u old → MetRefusal b c old why bare → IsAnswered (Answers y z (stream.refused why bare)) ((mid : A) × Fails mid z) [] u v result
-    → OnOk result (is_over z ≡ true) → EndsAs Answers Fails is_over (result_end result) x z a c e t v
+    → OnOk result (is_over z ≡ true) → ChainEndsAs Answers Fails is_over (result_end result) x z a c e t v
 refused Answers Fails is_over x y z a b c t u v e old why bare result r (came, m, i, f) p over =
     let here : IsRefused (drop_blank (old.waiting ++ came)) why bare = subst (λ (l : List ℕ). IsRefused (drop_blank l) why bare) (append-nil (old.waiting ++ came)) (f []) in
     result_ends Answers Fails is_over x y z a b c t u v e old came (stream.refused why bare) result r m i (here, refl, refl) refl p over

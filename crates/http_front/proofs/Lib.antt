@@ -16,6 +16,8 @@ mod Seeks
 mod Chained
 mod Handed
 mod Runs
+mod ChainEnds
 mod Ends
+pub mod EndsMap
 mod Opened
 mod Middle

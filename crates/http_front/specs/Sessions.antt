@@ -17,20 +17,28 @@ use Rattle.http_front.specs.declared.halt.Halt.TheVariants as halts
 use Rattle.http_front.specs.declared.replies.Unsaid.{Unsaid}
 use Rattle.http_front.specs.declared.replies.Unsaid.TheVariants as unsaid
 
+-- whether requests were answered with these bytes
+abbrev pub MadeOf : Type 1
+MadeOf = List Item → List ℕ → Type 0
+
+-- whether so many of the bytes with which requests were answered hold all the answers but the last
+abbrev pub PastOf : Type 1
+PastOf = List Item → List ℕ → ℕ → Type 0
+
 -- All that was read, which is no more than the limit, holds the requests, inside of which it ends or not. They were answered, and the
 -- answers were written. A source that doesn't tell has read some list of bytes.
-pub record HasSaid {A : Type 0} (Answers : Answering A) (is_over : A → Bool) (x y : A) (left left' taken taken' : Option (List ℕ)) (inside : Bool) : Type 0 where
+pub record HasSaid (Made : MadeOf) (left left' taken taken' : Option (List ℕ)) (inside : Bool) : Type 0 where
   pub read : List ℕ
   pub requests : List Item
   pub written : List ℕ
   pub consumed : Consumes left left' read
   pub few : length read ≤ input_limit
   pub holds : AreRequests read requests inside
-  pub made : Chain Answers is_over x requests written y
+  pub made : Made requests written
   pub wrote : Appends taken taken' written
 
 -- As many bytes as a session reads at most hold the requests, which were answered, and the answers were written. There are more.
-pub record HasSaidFirst {A : Type 0} (Answers : Answering A) (is_over : A → Bool) (x y : A) (left left' taken taken' : Option (List ℕ)) : Type 0 where
+pub record HasSaidFirst (Made : MadeOf) (left left' taken taken' : Option (List ℕ)) : Type 0 where
   pub read : List ℕ
   pub over : List ℕ
   pub requests : List Item
@@ -40,11 +48,11 @@ pub record HasSaidFirst {A : Type 0} (Answers : Answering A) (is_over : A → Bo
   pub more : 0 < length over
   pub consumed : Consumes left left' (read ++ over)
   pub holds : AreRequests read requests inside
-  pub made : Chain Answers is_over x requests written y
+  pub made : Made requests written
   pub wrote : Appends taken taken' written
 
 -- The first bytes that were read hold the requests, which were answered, and the answers were written.
-pub record HasSaidOf {A : Type 0} (Answers : Answering A) (is_over : A → Bool) (x y : A) (left left' taken taken' : Option (List ℕ)) : Type 0 where
+pub record HasSaidOf (Made : MadeOf) (left left' taken taken' : Option (List ℕ)) : Type 0 where
   pub read : List ℕ
   pub rest : List ℕ
   pub requests : List Item
@@ -53,11 +61,11 @@ pub record HasSaidOf {A : Type 0} (Answers : Answering A) (is_over : A → Bool)
   pub consumed : Consumes left left' (read ++ rest)
   pub few : length read ≤ input_limit
   pub holds : AreRequests read requests inside
-  pub made : Chain Answers is_over x requests written y
+  pub made : Made requests written
   pub wrote : Appends taken taken' written
 
 -- The first bytes that were read hold the requests, which were answered. The answers were written, of the last a front.
-pub record HasSaidPart {A : Type 0} (Answers : Answering A) (is_over : A → Bool) (x y : A) (left left' taken taken' : Option (List ℕ)) : Type 0 where
+pub record HasSaidPart (Made : MadeOf) (Past : PastOf) (left left' taken taken' : Option (List ℕ)) : Type 0 where
   pub read : List ℕ
   pub rest : List ℕ
   pub requests : List Item
@@ -66,14 +74,14 @@ pub record HasSaidPart {A : Type 0} (Answers : Answering A) (is_over : A → Boo
   pub count : ℕ
   pub consumed : Consumes left left' (read ++ rest)
   pub holds : AreRequests read requests inside
-  pub made : Chain Answers is_over x requests written y
+  pub made : Made requests written
   pub some : count ≤ length written
-  pub last : ChainsPast Answers is_over x requests written y count
+  pub last : Past requests written count
   pub wrote : Appends taken taken' (take count written)
 
 -- The first bytes that were read hold the requests, and behind them stands an accepted head. The answer to it was written before its
 -- content was looked at, or before all of that came, and ended the session: whatever the content is and whatever follows that, this is an answer.
-pub record HasDenied {A : Type 0} (Answers : Answering A) (is_over : A → Bool) (x y : A) (left left' taken taken' : Option (List ℕ)) : Type 0 where
+pub record HasDenied (Made : MadeOf) (left left' taken taken' : Option (List ℕ)) : Type 0 where
   pub first : List ℕ
   pub text : List ℕ
   pub rest : List ℕ
@@ -84,12 +92,12 @@ pub record HasDenied {A : Type 0} (Answers : Answering A) (is_over : A → Bool)
   pub few : length (first ++ (text ++ rest)) ≤ input_limit
   pub holds : (more : List ℕ) (items : List Item) (inside : Bool) → AreRequests more items inside → AreRequests (first ++ more) (requests ++ items) inside
   pub accepts : (more : List ℕ) → Accepts (drop_blank (text ++ more)) head more
-  pub made : (item : Item) → IsOf head item → Chain Answers is_over x (requests ++ item ∷ []) written y
+  pub made : (item : Item) → IsOf head item → Made (requests ++ item ∷ []) written
   pub wrote : Appends taken taken' written
 
 -- The first bytes that were read hold the requests, whatever follows. They were answered, and the answers were written. So it is where the
 -- last answer ends the session though its request doesn't close, as that to an upload that failed when it was whole.
-pub record HasStopped {A : Type 0} (Answers : Answering A) (is_over : A → Bool) (x y : A) (left left' taken taken' : Option (List ℕ)) : Type 0 where
+pub record HasStopped (Made : MadeOf) (left left' taken taken' : Option (List ℕ)) : Type 0 where
   pub first : List ℕ
   pub rest : List ℕ
   pub requests : List Item
@@ -98,7 +106,7 @@ pub record HasStopped {A : Type 0} (Answers : Answering A) (is_over : A → Bool
   pub consumed : Consumes left left' (first ++ rest)
   pub few : length (first ++ rest) ≤ input_limit
   pub holds : (more : List ℕ) (items : List Item) (inside : Bool) → AreRequests more items inside → AreRequests (first ++ more) (requests ++ items) inside
-  pub made : Chain Answers is_over x requests written y
+  pub made : Made requests written
   pub wrote : Appends taken taken' written
 
 -- the session ends after the last of the requests
@@ -108,25 +116,30 @@ ends_session (item ∷ []) = is_last item
 ends_session (item ∷ next ∷ items) = ends_session (next ∷ items)
 
 -- all that was read holds the requests, and the last of them ends the session
-abbrev pub HasEnded : {A : Type 0} → Answering A → (A → Bool) → A → A → Option (List ℕ) → Option (List ℕ) → Option (List ℕ) → Option (List ℕ) → Type 0
-HasEnded Answers is_over x y left left' taken taken' = (s : HasSaid Answers is_over x y left left' taken taken' false) × (ends_session s.requests ≡ true)
+abbrev pub HasEnded : MadeOf → Option (List ℕ) → Option (List ℕ) → Option (List ℕ) → Option (List ℕ) → Type 0
+HasEnded Made left left' taken taken' = (s : HasSaid Made left left' taken taken' false) × (ends_session s.requests ≡ true)
 
 -- the last answer ended the session: that to a request that ends it, one that came before all of the content did, or one to a request that doesn't close
-abbrev pub HasClosed : {A : Type 0} → Answering A → (A → Bool) → A → A → Option (List ℕ) → Option (List ℕ) → Option (List ℕ) → Option (List ℕ) → Type 0
-HasClosed Answers is_over x y left left' taken taken' =
-    (HasEnded Answers is_over x y left left' taken taken' ⊎ (HasDenied Answers is_over x y left left' taken taken' ⊎ HasStopped Answers is_over x y left left' taken taken')) × (is_over y ≡ true)
+abbrev pub HasClosed : MadeOf → Option (List ℕ) → Option (List ℕ) → Option (List ℕ) → Option (List ℕ) → Type 0
+HasClosed Made left left' taken taken' = HasEnded Made left left' taken taken' ⊎ (HasDenied Made left left' taken taken' ⊎ HasStopped Made left left' taken taken')
 
--- what each end says, where the replies went from the one value to the other
-abbrev pub EndsAs : {A : Type 0} → Answering A → (A → A → Type 0) → (A → Bool) → End → A → A → Option (List ℕ) → Option (List ℕ) → Bool → Option (List ℕ) → Option (List ℕ) → Type 0
-EndsAs Answers Fails is_over ends.Clean x y left left' ended taken taken' = HasSaid Answers is_over x y left left' taken taken' false × IsAtEnd left' × (ended ≡ true)
-EndsAs Answers Fails is_over ends.Closed x y left left' ended taken taken' = HasClosed Answers is_over x y left left' taken taken'
-EndsAs Answers Fails is_over ends.Cut x y left left' ended taken taken' = HasSaid Answers is_over x y left left' taken taken' true × IsAtEnd left' × (ended ≡ true)
-EndsAs Answers Fails is_over ends.ReadFault x y left left' ended taken taken' = (inside : Bool) × HasSaid Answers is_over x y left left' taken taken' inside
-EndsAs Answers Fails is_over ends.WriteFault x y left left' ended taken taken' = HasSaidPart Answers is_over x y left left' taken taken'
-EndsAs {A} Answers Fails is_over ends.DownloadFault x y left left' ended taken taken' =
-    HasSaidPart Answers is_over x y left left' taken taken' × ((mid : A) × Fails mid y)
-EndsAs Answers Fails is_over ends.InputTooLong x y left left' ended taken taken' = HasSaidFirst Answers is_over x y left left' taken taken'
-EndsAs Answers Fails is_over ends.NoMemory x y left left' ended taken taken' = HasSaidOf Answers is_over x y left left' taken taken'
+-- What each end says, by what it is that requests were answered with bytes, and with bytes of which a front was written. Where a download
+-- failed `Fails` holds. `over` is whether the last answer ended the session.
+abbrev pub EndsAs : MadeOf → PastOf → Type 0 → Bool → End → Option (List ℕ) → Option (List ℕ) → Bool → Option (List ℕ) → Option (List ℕ) → Type 0
+EndsAs Made Past Fails over ends.Clean left left' ended taken taken' = HasSaid Made left left' taken taken' false × IsAtEnd left' × (ended ≡ true)
+EndsAs Made Past Fails over ends.Closed left left' ended taken taken' = HasClosed Made left left' taken taken' × (over ≡ true)
+EndsAs Made Past Fails over ends.Cut left left' ended taken taken' = HasSaid Made left left' taken taken' true × IsAtEnd left' × (ended ≡ true)
+EndsAs Made Past Fails over ends.ReadFault left left' ended taken taken' = (inside : Bool) × HasSaid Made left left' taken taken' inside
+EndsAs Made Past Fails over ends.WriteFault left left' ended taken taken' = HasSaidPart Made Past left left' taken taken'
+EndsAs Made Past Fails over ends.DownloadFault left left' ended taken taken' = HasSaidPart Made Past left left' taken taken' × Fails
+EndsAs Made Past Fails over ends.InputTooLong left left' ended taken taken' = HasSaidFirst Made left left' taken taken'
+EndsAs Made Past Fails over ends.NoMemory left left' ended taken taken' = HasSaidOf Made left left' taken taken'
+
+-- the same of a session whose replies went from the one value to the other, by a chain of answers
+abbrev pub ChainEndsAs : {A : Type 0} → Answering A → (A → A → Type 0) → (A → Bool) → End → A → A → Option (List ℕ) → Option (List ℕ) → Bool → Option (List ℕ) → Option (List ℕ) → Type 0
+ChainEndsAs {A} Answers Fails is_over end x y left left' ended taken taken' =
+    EndsAs (λ requests written. Chain Answers is_over x requests written y) (λ requests written count. ChainsPast Answers is_over x requests written y count)
+    ((mid : A) × Fails mid y) (is_over y) end left left' ended taken taken'
 
 -- a fault only where the count of the source or of the sink rose
 abbrev pub HasEndCause : End → ℕ → ℕ → ℕ → ℕ → Type 0
