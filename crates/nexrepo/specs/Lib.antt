@@ -4,3 +4,4 @@ pub mod Configs
 pub mod Ends
 pub mod Opening
 pub mod Running
+pub mod Sessions

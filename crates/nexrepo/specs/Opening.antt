@@ -1,5 +1,5 @@
 -- The opening of a folder.
-use Rattle.std.specs.Prelude.{◌≡◌, ◌≤◌, ℕ, List, Option, IsSome}
+use Rattle.std.specs.Prelude.{◌≡◌, ◌≤◌, ℕ, List, Option, Some, None}
 use Rattle.std.specs.FinMap as map
 use Rattle.nx_io.specs.Causes.{Rose}
 use Rattle.repo_model.specs.Plain.{config_of}
@@ -8,7 +8,6 @@ use Rattle.repo_config.specs.declared.config_err.ConfigErr.{ConfigErr}
 use Rattle.repo_config.specs.declared.config_err.ConfigErr.TheVariants as refused
 use Rattle.repo_config.specs.Model.{model_of}
 use Rattle.repo_config.specs.Settings.{Settings}
-use Rattle.repo_config.specs.Told.{key_told}
 use Rattle.repo_core.specs.Fresh.{HasNoBlob, fresh_core}
 use Rattle.repo_core.specs.Rows.{rows_in}
 use Rattle.repo_core.specs.Standing.{Tracks}
@@ -22,13 +21,13 @@ use Rattle.nexrepo.specs.Statuses.{config_file}
 
 -- the status of a configuration that is refused
 abbrev pub refusal_status : ConfigErr → Status
-refusal_status (refused.Props e) = status.BadConfig (key_told (refused.Props e))
-refusal_status (refused.UnknownKey key) = status.BadConfig (key_told (refused.UnknownKey key))
-refusal_status (refused.BadValue key) = status.BadConfig (key_told (refused.BadValue key))
-refusal_status (refused.DuplicateName key) = status.BadConfig (key_told (refused.DuplicateName key))
-refusal_status (refused.NoStore key) = status.BadConfig (key_told (refused.NoStore key))
-refusal_status (refused.NestedGroup key) = status.BadConfig (key_told (refused.NestedGroup key))
-refusal_status (refused.StoreInTwoGroups key) = status.BadConfig (key_told (refused.StoreInTwoGroups key))
+refusal_status (refused.Props e) = status.BadConfig None
+refusal_status (refused.UnknownKey key) = status.BadConfig (Some key)
+refusal_status (refused.BadValue key) = status.BadConfig (Some key)
+refusal_status (refused.DuplicateName key) = status.BadConfig (Some key)
+refusal_status (refused.NoStore key) = status.BadConfig (Some key)
+refusal_status (refused.NestedGroup key) = status.BadConfig (Some key)
+refusal_status (refused.StoreInTwoGroups key) = status.BadConfig (Some key)
 refusal_status refused.NoMemory = status.NoMemory
 
 -- why a folder isn't opened: its configuration is bad, the disk failed, or memory was refused

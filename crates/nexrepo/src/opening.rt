@@ -1,15 +1,27 @@
 //! The opening of a folder: its configuration is read, and a core is made of it.
+ghost use Rattle.std.specs.Prelude.{◌≡◌, ◌≤◌, ℕ, List, Option, take, IfOk, IfErr};
+ghost use Rattle.std.specs.Option.{option_map};
+ghost use Rattle.disk_model.specs.Disk.{small_limit};
+ghost use Rattle.repo_config.specs.declared.config_err.ConfigErr.{ConfigErr};
+ghost use Rattle.repo_core.specs.declared.opening.OpenErr.TheVariants as open_err;
+ghost use Rattle.repo_session.specs.Devices.{devices};
+ghost use Rattle.nexrepo.specs.declared.status.Status.TheVariants as status;
+ghost use Rattle.nexrepo.specs.Configs.{FileGives};
+ghost use Rattle.nexrepo.specs.Opening.{refusal_status, IsOpenRefusal, IsOpened, IsUnopened};
+ghost use Rattle.nexrepo.specs.Statuses.{config_file};
 
 use crate::status::{CONFIG_FILE, Status};
 use asset_keeper::Keeper;
 use disk_model::{Disk, DiskErr};
 use nx_base::Name;
 use repo_config::{Config, ConfigErr};
-use repo_core::{Core, NotOpen, OpenErr, Opening, open_folder};
+use repo_core::{Core, NotOpen, Opening, open_folder};
 use std::alloc::Global;
 
 /// The status of a configuration that is refused.
-fn refused(why: ConfigErr) -> Status {
+fn refused(why: ConfigErr) -> Status
+    ensures { result ≡ refusal_status why }
+{
     match why {
         ConfigErr::NoMemory => Status::NoMemory,
         ConfigErr::Props(_) => Status::BadConfig { key: None },
@@ -23,7 +35,12 @@ fn refused(why: ConfigErr) -> Status {
 }
 
 /// The first bytes of the configuration's file, or None where there is none.
-fn read_text<D: Disk>(alloc: Global, disk: &mut D) -> Result<Option<Vec<u8>>, Status> {
+fn read_text<D: Disk>(alloc: Global, disk: &mut D) -> Result<Option<Vec<u8>>, Status>
+    ensures text { D.told → IfOk result (λ text. option_map (λ v. v.items) text ≡ option_map (λ bytes. take small_limit bytes) (D.tree disk.old config_file)) }
+    ensures why { IfErr result (IsOpenRefusal D.told (D.tree disk.old config_file) (D.faults disk.old) (D.faults disk.new)) }
+    ensures files { D.told → D.tree disk.new ≡ D.tree disk.old }
+    ensures later { D.faults disk.old ≤ D.faults disk.new }
+{
     let Ok(name) = Name::parse(alloc, CONFIG_FILE) else {
         return Err(Status::NoMemory);
     };
@@ -35,7 +52,12 @@ fn read_text<D: Disk>(alloc: Global, disk: &mut D) -> Result<Option<Vec<u8>>, St
 }
 
 /// The configuration of a folder.
-pub fn read_config<D: Disk>(alloc: Global, disk: &mut D) -> Result<Config, Status> {
+fn read_config<D: Disk>(alloc: Global, disk: &mut D) -> Result<Config, Status>
+    ensures given { D.told → IfOk result (FileGives (D.tree disk.old config_file)) }
+    ensures why { IfErr result (IsOpenRefusal D.told (D.tree disk.old config_file) (D.faults disk.old) (D.faults disk.new)) }
+    ensures files { D.told → D.tree disk.new ≡ D.tree disk.old }
+    ensures later { D.faults disk.old ≤ D.faults disk.new }
+{
     let Some(text) = read_text(alloc, disk)? else {
         return Err(Status::BadConfig { key: None });
     };
@@ -56,7 +78,10 @@ pub fn open<D: Disk, T: Keeper>(
     disk: D,
     table: T,
     random: [u8; 10],
-) -> Result<Core<D, T>, Unopened<D, T>> {
+) -> Result<Core<D, T>, Unopened<D, T>>
+    ensures opened { IfOk result (IsOpened (devices D.told D.tree T.table D.faults T.faults) disk table) }
+    ensures unopened { IfErr result (IsUnopened (devices D.told D.tree T.table D.faults T.faults) disk table) }
+{
     let mut disk = disk;
     let config = match read_config(alloc, &mut disk) {
         Ok(config) => config,
@@ -70,19 +95,14 @@ pub fn open<D: Disk, T: Keeper>(
     };
     match open_folder(alloc, disk, table, opening) {
         Ok(core) => Ok(core),
-        Err(NotOpen { why, disk, table }) => Err(Unopened {
-            why: status_of(why),
+        Err(NotOpen {
+            why: _,
+            disk,
+            table,
+        }) => Err(Unopened {
+            why: Status::NoMemory,
             disk,
             table,
         }),
-    }
-}
-
-/// The status of a folder that can't be opened.
-fn status_of(why: OpenErr) -> Status {
-    match why {
-        OpenErr::DiskFault => Status::DiskFault,
-        OpenErr::KeeperFault => Status::KeeperFault,
-        OpenErr::NoMemory => Status::NoMemory,
     }
 }

@@ -1,4 +1,16 @@
-ghost use Rattle.std.specs.Prelude.{◌<◌, length};
+ghost use Rattle.std.specs.Prelude.{◌≡◌, ◌≢◌, ◌<◌, ◌↔◌, ◌⊎◌, ℕ, List, Option, length, slice_get, Some, None, []};
+ghost use Rattle.nx_base.specs.declared.moment.Moment.{Moment};
+ghost use Rattle.repo_config.specs.Model.{model_of};
+ghost use Rattle.repo_config.specs.Settings.{Settings};
+ghost use Rattle.repo_session.specs.Devices.{devices};
+ghost use Rattle.repo_session.specs.Drawing.{HasDrawn};
+ghost use Rattle.nexrepo.specs.declared.status.Status.TheVariants as status;
+ghost use Rattle.nexrepo.specs.Commands.{texts_of};
+ghost use Rattle.nexrepo.specs.Configs.{FileGives, IsBadFile};
+ghost use Rattle.nexrepo.specs.Ends.{HasStatusCause, fault_status, status_of};
+ghost use Rattle.nexrepo.specs.Running.{AreNone, IsFresh, EndsEarly, HoldsSession, StandsBehind};
+ghost use Rattle.nexrepo.specs.Sessions.{HasServed};
+ghost use Rattle.nexrepo.specs.Statuses.{config_file};
 
 use crate::opening::{Unopened, open};
 use crate::status::Status;
@@ -34,6 +46,20 @@ pub fn run<S: Source, K: Sink, D: Disk, T: Keeper>(
     moments: &[Moment],
 ) -> Ran<D, T>
     requires { 0 < length moments.now }
+    // Usage exactly where the words are those of no command, and then both devices are handed back as they were.
+    ensures usage { (result.status ≡ status.Usage) ↔ AreNone (texts_of words.now) }
+    ensures untouched { result.status ≡ status.Usage → (result.disk ≡ disk) × (result.table ≡ table) }
+    // BadConfig only where the file of the configuration isn't there or is refused, with the key of which the refusal speaks.
+    ensures configuration { D.told → (key : Option (List ℕ)) → result.status ≡ status.BadConfig key → IsBadFile (D.tree disk config_file) key }
+    // Either nothing was read or written, or a session was held with the settings that the file gives.
+    ensures session { EndsEarly (devices D.told D.tree T.table D.faults T.faults) disk table input.old input.new output.old output.new result
+        ⊎ HoldsSession (devices D.told D.tree T.table D.faults T.faults) moments.now disk table (S.left input.old) (S.left input.new) (S.ended input.new) (K.taken output.old) (K.taken output.new) result }
+    // Over fresh devices the journal is a history of the one-thread repository from its beginning on, and the devices stand for what it leads to.
+    ensures history { (settings : Settings) → FileGives (D.tree disk config_file) settings → IsFresh (devices D.told D.tree T.table D.faults T.faults) disk table result.table
+        → StandsBehind (devices D.told D.tree T.table D.faults T.faults) (model_of settings) result.journal.entries result.disk result.table }
+    // A fault of a device is told only where its count rose.
+    ensures cause { HasStatusCause (record { reads = S.faults input.old; writes = K.faults output.old; disk = D.faults disk; keeper = T.faults table })
+        (record { reads = S.faults input.new; writes = K.faults output.new; disk = D.faults result.disk; keeper = T.faults result.table }) result.status }
 {
     match read_words(alloc, words) {
         Ok(Command::Stdio { folder: _ }) => stdio(alloc, input, output, disk, table, moments),
@@ -43,7 +69,9 @@ pub fn run<S: Source, K: Sink, D: Disk, T: Keeper>(
 }
 
 /// A run in which no folder was opened.
-fn unopened<D: Disk, T: Keeper>(alloc: Global, status: Status, disk: D, table: T) -> Ran<D, T> {
+fn unopened<D: Disk, T: Keeper>(alloc: Global, status: Status, disk: D, table: T) -> Ran<D, T>
+    ensures { result ≡ record { status = status; disk = disk; table = table; journal = record { entries = []; room = 0 } } }
+{
     Ran {
         status,
         disk,
@@ -62,6 +90,14 @@ fn stdio<S: Source, K: Sink, D: Disk, T: Keeper>(
     moments: &[Moment],
 ) -> Ran<D, T>
     requires { 0 < length moments.now }
+    ensures command { result.status ≢ status.Usage }
+    ensures configuration { D.told → (key : Option (List ℕ)) → result.status ≡ status.BadConfig key → IsBadFile (D.tree disk config_file) key }
+    ensures session { EndsEarly (devices D.told D.tree T.table D.faults T.faults) disk table input.old input.new output.old output.new result
+        ⊎ HoldsSession (devices D.told D.tree T.table D.faults T.faults) moments.now disk table (S.left input.old) (S.left input.new) (S.ended input.new) (K.taken output.old) (K.taken output.new) result }
+    ensures history { (settings : Settings) → FileGives (D.tree disk config_file) settings → IsFresh (devices D.told D.tree T.table D.faults T.faults) disk table result.table
+        → StandsBehind (devices D.told D.tree T.table D.faults T.faults) (model_of settings) result.journal.entries result.disk result.table }
+    ensures cause { HasStatusCause (record { reads = S.faults input.old; writes = K.faults output.old; disk = D.faults disk; keeper = T.faults table })
+        (record { reads = S.faults input.new; writes = K.faults output.new; disk = D.faults result.disk; keeper = T.faults result.table }) result.status }
 {
     let Ok(draws) = Draws::new(alloc, moments) else {
         return unopened(alloc, Status::NoMemory, disk, table);
@@ -79,7 +115,14 @@ fn session<S: Source, K: Sink, D: Disk, T: Keeper>(
     draws: Draws,
     input: &mut S,
     output: &mut K,
-) -> Ran<D, T> {
+) -> Ran<D, T>
+    requires free { slice_get core.holds 0 ≡ Some None }
+    requires sound { core.broken ≡ None }
+    requires first { draws.next ≡ 0 }
+    ensures session { HasServed (devices D.told D.tree T.table D.faults T.faults) core draws.moments.items (S.left input.old) (S.left input.new) (S.ended input.new) (K.taken output.old) (K.taken output.new) result }
+    ensures cause { HasStatusCause (record { reads = S.faults input.old; writes = K.faults output.old; disk = D.faults core.disk; keeper = T.faults core.table })
+        (record { reads = S.faults input.new; writes = K.faults output.new; disk = D.faults result.disk; keeper = T.faults result.table }) result.status }
+{
     let (end, core) = serve(alloc, core, draws, input, output);
     let status = status_of(end, core.broken());
     let closed = core.close();
@@ -92,7 +135,9 @@ fn session<S: Source, K: Sink, D: Disk, T: Keeper>(
 }
 
 /// The status of a session's end, over a core that was broken by this cause or by none.
-fn status_of(end: End, broken: Option<Cause>) -> Status {
+fn status_of(end: End, broken: Option<Cause>) -> Status
+    ensures { result ≡ status_of end broken }
+{
     match end {
         End::Clean | End::Closed => match broken {
             None => Status::Ok,
@@ -108,7 +153,9 @@ fn status_of(end: End, broken: Option<Cause>) -> Status {
 }
 
 /// The status of a core that is broken.
-fn status_of_fault(fault: Fault) -> Status {
+fn status_of_fault(fault: Fault) -> Status
+    ensures { result ≡ fault_status fault }
+{
     match fault {
         Fault::Disk => Status::DiskFault,
         Fault::Keeper => Status::KeeperFault,
