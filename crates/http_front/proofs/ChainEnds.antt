@@ -1,6 +1,5 @@
 -- What the ends of a session say, by a chain of answers.
-use Rattle.std.specs.Prelude.{◌≡◌, ℕ, ◌⊎◌, Bool, true, List, Option}
-use Rattle.http_requests.specs.Requests.{Item}
+use Rattle.std.specs.Prelude.{◌≡◌, ℕ, Bool, true, List, Option}
 use Rattle.http_front.specs.Chains.{Answering, Chain, ChainsPast}
 use Rattle.http_front.specs.Sessions as sessions
 

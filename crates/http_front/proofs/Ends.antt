@@ -1,5 +1,5 @@
 -- The ends of a session.
-use Rattle.std.proofs.Common.{◌≡◌, ℕ, ◌+◌, ◌<◌, ◌≤◌, Bool, true, false, List, [], ◌∷◌, ◌++◌, length, take, Result, Ok, Err, OnOk, refl, sym, ap, ◌∙◌, subst, arith, inl, inr, append_assoc, append-nil, length-append}
+use Rattle.std.proofs.Common.{◌≡◌, ℕ, ◌+◌, ◌<◌, ◌≤◌, Bool, true, false, List, [], ◌∷◌, ◌++◌, length, take, Result, Ok, Err, OnOk, refl, sym, ap, ◌∙◌, subst, arith, inl, append_assoc, append-nil, length-append}
 use Rattle.std.specs.declared.option.Option.{Option}
 use Rattle.std.specs.Io.KnownBytes.{Consumes, Appends, IsAtEnd}
 use Rattle.std.proofs.KnownBytes.{Consumes-trans, Appends-nil, Appends-trans}
@@ -128,11 +128,11 @@ part_said Answers is_over x y z a b c t u v old came more rest item inside r m e
 
 -- the request was answered in part alone
 pub unsaid_ends : {A : Type 0} (Answers : Answering A) (Fails : A → A → Type 0) (is_over : A → Bool) (x y z : A) (a b c t u v : Option (List ℕ)) (e : Bool) (old : Pending) (came more rest : List ℕ) (item : Item) (inside : Bool) (why : Unsaid)
-    → (r : Runs Answers is_over x y a b t u old) → Consumes b c came → old.waiting ++ came ≡ more ++ rest → AreRequests more (item ∷ []) inside → IsAnswered (Answers y z item) ((mid : A) × Fails mid z) [] u v (Err why)
+    → (r : Runs Answers is_over x y a b t u old) → Consumes b c came → old.waiting ++ came ≡ more ++ rest → AreRequests more (item ∷ []) inside → IsAnswered (Answers y z item) (Fails y z) [] u v (Err why)
     → ChainEndsAs Answers Fails is_over (unsaid_end why) x z a c e t v
 unsaid_ends Answers Fails is_over x y z a b c t u v e old came more rest item inside unsaid.WriteFault r m parts h p = part_said Answers is_over x y z a b c t u v old came more rest item inside r m parts h p
 unsaid_ends Answers Fails is_over x y z a b c t u v e old came more rest item inside unsaid.DownloadFault r m parts h (p, fails) =
-    (part_said Answers is_over x y z a b c t u v old came more rest item inside r m parts h p, fails)
+    (part_said Answers is_over x y z a b c t u v old came more rest item inside r m parts h p, record { front = r.front; before = r.written; start = y; made = r.made; fails = fails })
 
 -- a halt where no request stands in the bytes
 pub halt_said : {A : Type 0} (Answers : Answering A) (Fails : A → A → Type 0) (is_over : A → Bool) (x y : A) (a b c t u : Option (List ℕ)) (e : Bool) (old : Pending) (m n : ℕ) (h : Halt)
@@ -190,14 +190,14 @@ all_stopped Answers is_over x y z a b c t u v old new asked content answer r k g
 -- it was answered, or in part
 pub result_ends : {A : Type 0} (Answers : Answering A) (Fails : A → A → Type 0) (is_over : A → Bool) (x y z : A) (a b c t u v : Option (List ℕ)) (e : Bool) (old : Pending) (came : List ℕ) (item : Item) (result : Result (Unit {0}) Unsaid)
     → Runs Answers is_over x y a b t u old → Consumes b c came → IsWithin old.total came → AreRequests (old.waiting ++ came) (item ∷ []) false → is_last item ≡ true
-    → IsAnswered (Answers y z item) ((mid : A) × Fails mid z) [] u v result → OnOk result (is_over z ≡ true) → ChainEndsAs Answers Fails is_over (result_end result) x z a c e t v
+    → IsAnswered (Answers y z item) (Fails y z) [] u v result → OnOk result (is_over z ≡ true) → ChainEndsAs Answers Fails is_over (result_end result) x z a c e t v
 result_ends Answers Fails is_over x y z a b c t u v e old came item (Ok k) r m i h l (answer, is, w) over = all_closed Answers is_over x y z a b c t u v old came answer item r m i h is w l over
 result_ends Answers Fails is_over x y z a b c t u v e old came item (Err why) r m i h l p over =
     unsaid_ends Answers Fails is_over x y z a b c t u v e old came (old.waiting ++ came) [] item false why r m (sym (append-nil (old.waiting ++ came))) h p
 
 -- a refused head ends the session
 pub refused : {A : Type 0} (Answers : Answering A) (Fails : A → A → Type 0) (is_over : A → Bool) (x y z : A) (a b c t u v : Option (List ℕ)) (e : Bool) (old : Pending) (why : HeadErr) (bare : Bool) (result : Result (Unit {0}) Unsaid)
-    → Runs Answers is_over x y a b t u old → MetRefusal b c old why bare → IsAnswered (Answers y z (stream.refused why bare)) ((mid : A) × Fails mid z) [] u v result
+    → Runs Answers is_over x y a b t u old → MetRefusal b c old why bare → IsAnswered (Answers y z (stream.refused why bare)) (Fails y z) [] u v result
     → OnOk result (is_over z ≡ true) → ChainEndsAs Answers Fails is_over (result_end result) x z a c e t v
 refused Answers Fails is_over x y z a b c t u v e old why bare result r (came, m, i, f) p over =
     let here : IsRefused (drop_blank (old.waiting ++ came)) why bare = subst (λ (l : List ℕ). IsRefused (drop_blank l) why bare) (append-nil (old.waiting ++ came)) (f []) in

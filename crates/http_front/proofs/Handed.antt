@@ -1,11 +1,11 @@
 -- The parts of a content that were handed over.
-use Rattle.std.proofs.Common.{ℕ, List, [], ◌++◌, Result, Ok, Err}
+use Rattle.std.proofs.Common.{ℕ, inr, List, [], ◌++◌, Result, Ok, Err}
 use Rattle.std.specs.declared.option.Option.{Option}
 use Rattle.std.specs.Io.KnownBytes.{Appends}
 use Rattle.std.proofs.KnownBytes.{Appends-nil, Appends-trans}
 use Rattle.http_heads.specs.declared.head.Head.{Head}
 use Rattle.http_front.specs.Chains.{Answering}
-use Rattle.http_front.specs.Handing.{HandsOver, IsDenied}
+use Rattle.http_front.specs.Handing.{HandsOver, FailsSince, IsDenied}
 use Rattle.http_front.specs.Replying.{IsAnswered, AnswersAll, Feeds}
 use Rattle.http_front.specs.declared.fed.Fed.TheVariants.{Taken}
 use Rattle.http_front.specs.declared.replies.Unsaid.{Unsaid}
@@ -35,6 +35,6 @@ pub denied_at : {A : Type 0} (Answers : Answering A) (Waits : A → A → Head �
     → HandsOver Waits x y head u v content
     → ((start : A) (content said : List ℕ) → Waits start y head content said → IsAnswered (AnswersAll (Answers start z) head) (Fails y z) said v w result)
     → IsDenied Answers Waits Fails x z head u w result
-denied_at {A} Answers Waits Fails x y z head u v w content result hands f = λ start said h.
+denied_at Answers Waits Fails x y z head u v w content result hands f = λ start said h.
     let k = hands start said h in
-    behind_nothing (AnswersAll (Answers start z) head) (Fails y z) ((q : A) × Fails q z) said u v w result (λ g. (y, g)) k.1 (f start content said k.0)
+    behind_nothing (AnswersAll (Answers start z) head) (Fails y z) (FailsSince Waits Fails start z) said u v w result (λ g. inr (y, head, content, said, k.0, g)) k.1 (f start content said k.0)

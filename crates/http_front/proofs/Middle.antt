@@ -15,7 +15,7 @@ use Rattle.http_requests.specs.Requests.{Asks, AreRequests, stop_of}
 use Rattle.http_front.specs.Buffers.{Pending, input_limit}
 use Rattle.http_front.specs.Chains.{Answering}
 use Rattle.http_front.specs.Fills.{IsWithin}
-use Rattle.http_front.specs.Handing.{HandsOver, IsDenied}
+use Rattle.http_front.specs.Handing.{HandsOver, FailsSince, IsDenied}
 use Rattle.http_front.specs.Reading.{Moves, TookHead, MetEnd, MetStop, IsCut, ContentHalts}
 use Rattle.http_front.specs.Replying.{IsAnswered, AnswersAll, Begins, unread}
 use Rattle.http_front.specs.Sessions.{ChainEndsAs, halt_end, unsaid_end, result_end}
@@ -72,11 +72,11 @@ asks b c old mid head came reading k h = record {
 
 -- in part
 pub begin_unsaid : {A : Type 0} (Answers : Answering A) (Waits : Waiting A) (Fails : A → A → Type 0) (is_over : A → Bool) (x y z : A) (a b c t u v : Option (List ℕ)) (e : Bool) (old mid : Pending) (head : Head) (why : Unsaid)
-    → Runs Answers is_over x y a b t u old → TookHead b c old mid head → Begins (Answers y z) (Waits y z head []) (Fails y z) head u v (Err why) → ChainEndsAs Answers Fails is_over (unsaid_end why) x z a c e t v
-begin_unsaid {A} Answers Waits Fails is_over x y z a b c t u v e old mid head why r k p =
+    → Runs Answers is_over x y a b t u old → TookHead b c old mid head → Begins (Answers y z) (Waits y z head []) (Fails y z) head u v (Err why) → ChainEndsAs Answers (FailsSince Waits Fails) is_over (unsaid_end why) x z a c e t v
+begin_unsaid Answers Waits Fails is_over x y z a b c t u v e old mid head why r k p =
     let o = opened b c old mid head k in
-    unsaid_ends Answers Fails is_over x y z a b c t u v e old k.moves.came k.taken mid.waiting (unread head) o.0 why r k.moves.consumed k.moves.parts o.1
-    (joined (Answers y z (unread head)) (Fails y z) ((q : A) × Fails q z) [] u u v (Err why) (λ f. (y, f)) (Appends-nil u) p)
+    unsaid_ends Answers (FailsSince Waits Fails) is_over x y z a b c t u v e old k.moves.came k.taken mid.waiting (unread head) o.0 why r k.moves.consumed k.moves.parts o.1
+    (joined (Answers y z (unread head)) (Fails y z) (FailsSince Waits Fails y z) [] u u v (Err why) (λ f. inl f) (Appends-nil u) p)
 
 -- whole, and the session goes on
 pub begin_answered : {A : Type 0} (Answers : Answering A) (Waits : Waiting A) (Fails : Type 0) (is_over : A → Bool) (x y z : A) (a b c t u v : Option (List ℕ)) (old mid : Pending) (head : Head)
@@ -122,11 +122,11 @@ denied_whole Answers Waits Fails is_over x y p z a b c d t u v w old mid new hea
     denied Answers is_over x y z a b c d t u w old mid new head (n.said ++ g.0) content r k m g.1 (Appends-trans u v w n.said g.0 n.wrote g.2)
 
 pub denied_part : {A : Type 0} (Answers : Answering A) (Waits : Waiting A) (Fails : A → A → Type 0) (is_over : A → Bool) (x y p z : A) (a b c d t u v w : Option (List ℕ)) (e : Bool) (old mid new : Pending) (head : Head) (content : List ℕ) (why : Unsaid)
-    → Runs Answers is_over x y a b t u old → TookHead b c old mid head → Wants Waits y p head u v [] → Moves c d mid new content → IsDenied Answers Waits Fails p z head v w (Err why) → ChainEndsAs Answers Fails is_over (unsaid_end why) x z a d e t w
-denied_part {A} Answers Waits Fails is_over x y p z a b c d t u v w e old mid new head content why r k n m f =
+    → Runs Answers is_over x y a b t u old → TookHead b c old mid head → Wants Waits y p head u v [] → Moves c d mid new content → IsDenied Answers Waits Fails p z head v w (Err why) → ChainEndsAs Answers (FailsSince Waits Fails) is_over (unsaid_end why) x z a d e t w
+denied_part Answers Waits Fails is_over x y p z a b c d t u v w e old mid new head content why r k n m f =
     let o = opened b c old mid head k in
-    let F : Type 0 = (q : A) × Fails q z in
-    unsaid_ends Answers Fails is_over x y z a b d t u w e old (k.moves.came ++ m.came) k.taken (mid.waiting ++ m.came) (unread head) o.0 why r
+    let F : Type 0 = FailsSince Waits Fails y z in
+    unsaid_ends Answers (FailsSince Waits Fails) is_over x y z a b d t u w e old (k.moves.came ++ m.came) k.taken (mid.waiting ++ m.came) (unread head) o.0 why r
     (Consumes-trans b c d k.moves.came m.came k.moves.consumed m.consumed) (behind_head b c old mid head m.came k) o.1
     (joined (Answers y z (unread head)) F F n.said u v w (Err why) (λ x. x) n.wrote
     (answered_as (AnswersAll (Answers y z) head) (Answers y z (unread head)) F n.said v w (Err why) (λ bytes g. g (unread head) (IsOf-unread head)) (f y n.said n.waits)))
@@ -166,23 +166,23 @@ whole_last Answers Waits is_over G x y p z a b c t u v w old new head content r 
 -- it was answered in part
 pub whole_unsaid : {A : Type 0} (Answers : Answering A) (Waits : Waiting A) (Fails : A → A → Type 0) (is_over : A → Bool) (x y p z : A) (a b c t u v w : Option (List ℕ)) (e : Bool) (old new : Pending) (head : Head) (content : List ℕ) (why : Unsaid)
     → Runs Answers is_over x y a b t u old → Took b c old new head content → (n : Wants Waits y p head u v content)
-    → IsAnswered (Answers y z (stream.whole head content)) (Fails p z) n.said v w (Err why) → ChainEndsAs Answers Fails is_over (unsaid_end why) x z a c e t w
-whole_unsaid {A} Answers Waits Fails is_over x y p z a b c t u v w e old new head content why r k n h =
-    unsaid_ends Answers Fails is_over x y z a b c t u w e old k.came k.text new.waiting (stream.whole head content) false why r k.consumed k.parts (stands_alone b c old new head content k)
-    (joined (Answers y z (stream.whole head content)) (Fails p z) ((q : A) × Fails q z) n.said u v w (Err why) (λ f. (p, f)) n.wrote h)
+    → IsAnswered (Answers y z (stream.whole head content)) (Fails p z) n.said v w (Err why) → ChainEndsAs Answers (FailsSince Waits Fails) is_over (unsaid_end why) x z a c e t w
+whole_unsaid Answers Waits Fails is_over x y p z a b c t u v w e old new head content why r k n h =
+    unsaid_ends Answers (FailsSince Waits Fails) is_over x y z a b c t u w e old k.came k.text new.waiting (stream.whole head content) false why r k.consumed k.parts (stands_alone b c old new head content k)
+    (joined (Answers y z (stream.whole head content)) (Fails p z) (FailsSince Waits Fails y z) n.said u v w (Err why) (λ f. inr (p, head, content, n.said, n.waits, f)) n.wrote h)
 
 -- ---- the content is refused
 
 pub stopped : {A : Type 0} (Answers : Answering A) (Waits : Waiting A) (Fails : A → A → Type 0) (is_over : A → Bool) (x y p q z : A) (a b c d t u v v' w : Option (List ℕ)) (e : Bool) (old mid : Pending) (head : Head) (why : BodyErr)
     (result : Result (Unit {0}) Unsaid) → Runs Answers is_over x y a b t u old → TookHead b c old mid head → Wants Waits y p head u v [] → MetStop (HandsOver Waits p q head v v') c d mid head.framing why
     → ((start : A) (content said : List ℕ) → Waits start q head content said → IsAnswered (Answers start z (stream.stopped head content why)) (Fails q z) said v' w result)
-    → OnOk result (is_over z ≡ true) → ChainEndsAs Answers Fails is_over (result_end result) x z a d e t w
-stopped {A} Answers Waits Fails is_over x y p q z a b c d t u v v' w e old mid head why result r k n (came, content, m, i, f, h) said over =
+    → OnOk result (is_over z ≡ true) → ChainEndsAs Answers (FailsSince Waits Fails) is_over (result_end result) x z a d e t w
+stopped Answers Waits Fails is_over x y p q z a b c d t u v v' w e old mid head why result r k n (came, content, m, i, f, h) said over =
     let body : HoldsBody head.framing (mid.waiting ++ came) (stop_of content why) = subst (λ (l : List ℕ). HoldsBody head.framing l (stop_of content why)) (append-nil (mid.waiting ++ came)) (f []) in
     let o : Wants Waits y q head u v' content = handed Waits y p q head u v v' content n h in
-    result_ends Answers Fails is_over x y z a b d t u w e old (k.moves.came ++ came) (stream.stopped head content why) result r (Consumes-trans b c d k.moves.came came k.moves.consumed m)
+    result_ends Answers (FailsSince Waits Fails) is_over x y z a b d t u w e old (k.moves.came ++ came) (stream.stopped head content why) result r (Consumes-trans b c d k.moves.came came k.moves.consumed m)
     (within_both k.moves.came came old.total mid.total k.moves.count k.moves.within i) (asks b c old mid head came (stop_of content why) k body, refl, refl) refl
-    (joined (Answers y z (stream.stopped head content why)) (Fails q z) ((s : A) × Fails s z) o.said u v' w result (λ g. (q, g)) o.wrote (said y content o.said o.waits)) over
+    (joined (Answers y z (stream.stopped head content why)) (Fails q z) (FailsSince Waits Fails y z) o.said u v' w result (λ g. inr (q, head, content, o.said, o.waits, g)) o.wrote (said y content o.said o.waits)) over
 
 -- ---- the content is cut
 
@@ -197,7 +197,7 @@ Cuts {A} Answers Waits q z head = (start : A) (content said : List ℕ) → Wait
 
 pub cut_ended : {A : Type 0} (Answers : Answering A) (Waits : Waiting A) (Fails : A → A → Type 0) (is_over : A → Bool) (x y p q z : A) (a b c d t u v w : Option (List ℕ)) (e : Bool) (old mid : Pending) (head : Head)
     → Runs Answers is_over x y a b t u old → TookHead b c old mid head → Wants Waits y p head u v [] → Cuts Answers Waits q z head
-    → MetEnd c d e mid.total (IsCut (HandsOver Waits p q head v w) mid head.framing) → ChainEndsAs Answers Fails is_over ends.Cut x z a d e t w
+    → MetEnd c d e mid.total (IsCut (HandsOver Waits p q head v w) mid head.framing) → ChainEndsAs Answers (FailsSince Waits Fails) is_over ends.Cut x z a d e t w
 cut_ended Answers Waits Fails is_over x y p q z a b c d t u v w e old mid head r k n f m =
     let content = m.stands.0 in
     let put = put_if_cut head (mid.waiting ++ m.came) content k.fits m.stands.1 in
@@ -211,7 +211,7 @@ cut_ended Answers Waits Fails is_over x y p q z a b c d t u v w e old mid head r
 
 pub cut_halted : {A : Type 0} (Answers : Answering A) (Waits : Waiting A) (Fails : A → A → Type 0) (is_over : A → Bool) (x y p q z : A) (a b c d t u v w : Option (List ℕ)) (e : Bool) (old mid : Pending) (head : Head) (reads reads' : ℕ) (h : Halt)
     → Runs Answers is_over x y a b t u old → TookHead b c old mid head → Wants Waits y p head u v [] → Cuts Answers Waits q z head
-    → ContentHalts (IsCut (HandsOver Waits p q head v w) mid head.framing) c d mid.total reads reads' h → ChainEndsAs Answers Fails is_over (halt_end h) x z a d e t w
+    → ContentHalts (IsCut (HandsOver Waits p q head v w) mid head.framing) c d mid.total reads reads' h → ChainEndsAs Answers (FailsSince Waits Fails) is_over (halt_end h) x z a d e t w
 cut_halted Answers Waits Fails is_over x y p q z a b c d t u v w e old mid head reads reads' halts.ReadFault r k n f (came, m, (content, s, hands), i, rose) =
     let put = put_if_cut head (mid.waiting ++ came) content k.fits s in
     let o : Wants Waits y q head u w content = handed Waits y p q head u v w content n hands in (

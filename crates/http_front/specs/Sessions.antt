@@ -135,11 +135,20 @@ EndsAs Made Past Fails over ends.DownloadFault left left' ended taken taken' = H
 EndsAs Made Past Fails over ends.InputTooLong left left' ended taken taken' = HasSaidFirst Made left left' taken taken'
 EndsAs Made Past Fails over ends.NoMemory left left' ended taken taken' = HasSaidOf Made left left' taken taken'
 
--- the same of a session whose replies went from the one value to the other, by a chain of answers
+-- requests were answered one after another, and in the answer to the next one a download failed
+pub record ChainFails {A : Type 0} (Answers : Answering A) (Fails : A → A → Type 0) (is_over : A → Bool) (x y : A) : Type 0 where
+  pub front : List Item
+  pub before : List ℕ
+  pub start : A
+  pub made : Chain Answers is_over x front before start
+  pub fails : Fails start y
+
+-- The same of a session whose replies went from the one value to the other, by a chain of answers. `Fails` is that a download failed since
+-- a request began.
 abbrev pub ChainEndsAs : {A : Type 0} → Answering A → (A → A → Type 0) → (A → Bool) → End → A → A → Option (List ℕ) → Option (List ℕ) → Bool → Option (List ℕ) → Option (List ℕ) → Type 0
-ChainEndsAs {A} Answers Fails is_over end x y left left' ended taken taken' =
+ChainEndsAs Answers Fails is_over end x y left left' ended taken taken' =
     EndsAs (λ requests written. Chain Answers is_over x requests written y) (λ requests written count. ChainsPast Answers is_over x requests written y count)
-    ((mid : A) × Fails mid y) (is_over y) end left left' ended taken taken'
+    (ChainFails Answers Fails is_over x y) (is_over y) end left left' ended taken taken'
 
 -- a fault only where the count of the source or of the sink rose
 abbrev pub HasEndCause : End → ℕ → ℕ → ℕ → ℕ → Type 0

@@ -1,3 +1,4 @@
+ghost use Rattle.http_front.specs.Handing.{FailsSince};
 ghost use Rattle.http_front.specs.Sessions.{ChainEndsAs, HasEndCause};
 
 use crate::begun::Begun;
@@ -17,7 +18,7 @@ pub fn run_session<R: Replies, S: Source, K: Sink>(
     input: &mut S,
     output: &mut K,
 ) -> End
-    ensures said { ChainEndsAs R.Answers R.Fails R.is_over result replies.old replies.new (S.left input.old) (S.left input.new) (S.ended input.new) (K.taken output.old) (K.taken output.new) }
+    ensures said { ChainEndsAs R.Answers (FailsSince R.Waits R.Fails) R.is_over result replies.old replies.new (S.left input.old) (S.left input.new) (S.ended input.new) (K.taken output.old) (K.taken output.new) }
     ensures cause { HasEndCause result (S.faults input.old) (S.faults input.new) (K.faults output.old) (K.faults output.new) }
 {
     let mut buffer = Buffer::new(alloc);

@@ -219,6 +219,7 @@ module _ {D T : Type 0} (devices : Devices D T) where
       → (HasRoom old.journal → new.journal ≡ with_entry old.journal (entry_of 0 c says result))
       → new.config ≡ old.config
       → (IsSome (devices.table new.table) → IsSome (devices.table old.table))
+      → (HasRoom old.journal → (cause : Cause) → old.broken ≡ Some cause → new.broken ≡ old.broken)
       → HasCauseWhere (RefusedBy IsDisk) (devices.disk_faults old.disk) (devices.disk_faults new.disk) result
       → HasCauseWhere (RefusedBy IsKeeper) (devices.keeper_faults old.table) (devices.keeper_faults new.table) result
       → ((cause : Cause) → old.broken ≡ None → new.broken ≡ Some cause → cause.fault ≡ fault.Disk → Rose (devices.disk_faults old.disk) (devices.disk_faults new.disk))
@@ -227,17 +228,19 @@ module _ {D T : Type 0} (devices : Devices D T) where
       → (devices.told → IsSome (devices.table new.table) → HasRoom old.journal → (s : State) (contents : Contents) → Stands devices old s contents
       → (next : State) × FollowsAt (config_of old.config) (length old.journal.entries) s store (entry_of 0 c says result) next × Stands devices new next (after contents))
       → Called devices old new c store (reply_of says result) after
-  called {A} old new c store says result after never at_full with_room config tells disk keeper broke_disk broke_keeper full room =
+  called {A} old new c store says result after never at_full with_room config tells stays disk keeper broke_disk broke_keeper full room =
       let cause : HasDeviceCause devices old new (reply_of says result) = record {
         disk = caused IsDisk refusal.DiskFault (Rose (devices.disk_faults old.disk) (devices.disk_faults new.disk)) says result tt (λ v. (never v).0) disk.failed;
         keeper = caused IsKeeper refusal.KeeperFault (Rose (devices.keeper_faults old.table) (devices.keeper_faults new.table)) says result tt (λ v. (never v).1) keeper.failed;
       } in
-      let since : (entries : List Entry) → new.journal ≡ record old.journal { entries = old.journal.entries ++ entries } → Since devices old new entries = λ entries journal. record {
+      let since : (entries : List Entry) → new.journal ≡ record old.journal { entries = old.journal.entries ++ entries } → ((cause : Cause) → old.broken ≡ Some cause → new.broken ≡ old.broken)
+      → Since devices old new entries = λ entries journal stays. record {
         journal = journal;
         config = config;
         tells = tells;
         disk_later = disk.later;
         keeper_later = keeper.later;
+        broken = λ cause is. stays cause is ∙ is;
         disk_broke = broke_disk;
         keeper_broke = broke_keeper;
       } in
@@ -245,7 +248,7 @@ module _ {D T : Type 0} (devices : Devices D T) where
         | inl fits ↦ record {
           entries = entry_of 0 c says result ∷ [];
           made = inl (fits, refl);
-          since = since (entry_of 0 c says result ∷ []) (with_room fits);
+          since = since (entry_of 0 c says result ∷ []) (with_room fits) (stays fits);
           cause = cause;
           leads = λ told some s contents stands. let next = room told some fits s contents stands in (next.0, (next.1, refl), next.2);
         }
@@ -256,7 +259,7 @@ module _ {D T : Type 0} (devices : Devices D T) where
             record {
               entries = [];
               made = inr (none, refl, ap (λ (r : Result A Refusal). reply_of says r) all.0);
-              since = since [] journal;
+              since = since [] journal (λ cause is. ap (λ (core : CoreView D T). core.broken) all.1);
               cause = cause;
               leads = λ told some s contents stands. (s, refl, full told all.0 all.1 s contents stands);
             }

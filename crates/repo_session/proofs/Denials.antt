@@ -91,6 +91,7 @@ no_call_turn devices core item moment = record {
     tells = λ is. is;
     disk_later = omega arith;
     keeper_later = omega arith;
+    broken = λ cause is. is;
     disk_broke = λ cause was is says. absurd (some_is_none (sym is ∙ was));
     keeper_broke = λ cause was is says. absurd (some_is_none (sym is ∙ was));
   };

@@ -68,10 +68,14 @@ hit_answered {D} {T} {R} devices told left old mid new moment head content asset
     held t table state contents stands = subst (λ (v : GotOf (Download R)). GivesHeld left contents v) is (gives t table state contents stands)
 
     fails : result ≡ Err DownloadFault → DownloadFails devices old new
-    fails e t table state contents stands =
-        rose_before _ _ _ called.since.disk_later
-        (subst (λ (r : Result (Unit {0}) Unsaid). HasGivenCause told left (devices.disk_faults mid.disk) (devices.disk_faults new.disk) download r) e cause
-        (tells t) (held t (told_before devices mid new rests table) state contents stands).whole)
+    fails e t table =
+        let before = told_before devices mid new rests table in (
+          called.since.tells before,
+          λ state contents stands.
+              rose_before _ _ _ called.since.disk_later
+              (subst (λ (r : Result (Unit {0}) Unsaid). HasGivenCause told left (devices.disk_faults mid.disk) (devices.disk_faults new.disk) download r) e cause
+              (tells t) (held t before state contents stands).whole),
+        )
 
 -- a HEAD that found the asset
 pub seen_turned : {D T R : Type 0} (devices : Devices D T) (left : R → List ℕ) (old new : CoreView D T) (moment : Moment) (head : Head) (content : List ℕ)

@@ -49,10 +49,6 @@ use Rattle.repo_session.proofs.Sayings.{last_of_two}
 use Rattle.repo_session.proofs.TurnsMade.{rose_later, rose_before, since_rests, told_before, disk_of_call, keeper_of_call}
 use Rattle.repo_session.proofs.Uploads.{begin_entry, begun_entries, asks_begin}
 
--- a core that was broken stays so, by the same cause
-abbrev pub StaysBroken : {D T : Type 0} → CoreView D T → CoreView D T → Type 0
-StaysBroken old new = (cause : Cause) → old.broken ≡ Some cause → new.broken ≡ Some cause
-
 -- what broke a core in the first leg or in the second
 broke_in : (before mid now : ℕ) (broken broken' : Option Cause) (cause : Cause) → before ≤ mid → mid ≤ now
     → (broken ≡ Some cause → Rose before mid) → (broken ≡ None → Rose mid now) → ((c : Cause) → broken ≡ Some c → broken' ≡ Some c) → broken' ≡ Some cause → Rose before now
@@ -61,19 +57,19 @@ broke_in before mid now (Some c) broken' cause later more first second stays is 
     rose_later before mid now (first (sym (stays c refl) ∙ is)) more
 
 -- One behind another.
-pub since_both : {D T : Type 0} (devices : Devices D T) (old mid new : CoreView D T) (first second : List Entry) → Since devices old mid first → Since devices mid new second → StaysBroken mid new
-    → Since devices old new (first ++ second)
-since_both {D} {T} devices old mid new first second one two stays = record {
+pub since_both : {D T : Type 0} (devices : Devices D T) (old mid new : CoreView D T) (first second : List Entry) → Since devices old mid first → Since devices mid new second → Since devices old new (first ++ second)
+since_both {D} {T} devices old mid new first second one two = record {
   journal = two.journal ∙ ap (λ (j : JournalView). record j { entries = j.entries ++ second }) one.journal
       ∙ ap (λ (l : List Entry). record old.journal { entries = l }) (append_assoc old.journal.entries first second);
   config = two.config ∙ one.config;
   tells = λ is. one.tells (two.tells is);
   disk_later = grind (arith, one.disk_later, two.disk_later);
   keeper_later = grind (arith, one.keeper_later, two.keeper_later);
+  broken = λ cause is. two.broken cause (one.broken cause is);
   disk_broke = λ cause was is says. broke_in _ _ _ mid.broken new.broken cause one.disk_later two.disk_later
-      (λ broke. one.disk_broke cause was broke says) (λ none. two.disk_broke cause none is says) stays is;
+      (λ broke. one.disk_broke cause was broke says) (λ none. two.disk_broke cause none is says) two.broken is;
   keeper_broke = λ cause was is says. broke_in _ _ _ mid.broken new.broken cause one.keeper_later two.keeper_later
-      (λ broke. one.keeper_broke cause was broke says) (λ none. two.keeper_broke cause none is says) stays is;
+      (λ broke. one.keeper_broke cause was broke says) (λ none. two.keeper_broke cause none is says) two.broken is;
 }
 
 -- what is stored or refused gives nothing out
@@ -86,7 +82,6 @@ pub record PutCalled {D T : Type 0} (devices : Devices D T) (start mid rest new 
   pub begun : HasBegun devices start mid head store
   pub rests : Rests devices mid rest
   pub called : Called devices rest new c store said (λ contents. with_content said content contents)
-  pub stays : StaysBroken rest new
   pub plain : is_begin c ≡ false
   pub is : devices.told → c ≡ put_call sha1 moment head content
 
@@ -94,7 +89,7 @@ put_turn : {D T : Type 0} (devices : Devices D T) (start mid rest new : CoreView
     → is_put head.method ≡ true → ((contents : Contents) → Serves contents said) → (p : PutCalled devices start mid rest new moment head content store c said)
     → TurnMade devices start new moment (record { request = whole head content; stop = None; entries = begin_entry head store ∷ p.called.entries })
 put_turn {D} {T} devices start mid rest new moment head content store c said put serves p = record {
-  since = since_both devices start rest new (begin_entry head store ∷ []) p.called.entries since p.called.since p.stays;
+  since = since_both devices start rest new (begin_entry head store ∷ []) p.called.entries since p.called.since;
   disk = grind (arith, since.disk_later, disk_of_call devices rest new _ _ c said p.called.entries p.called.made p.called.since.disk_later p.called.cause);
   keeper = grind (arith, since.keeper_later, keeper_of_call devices rest new _ _ c said p.called.entries p.called.made p.called.since.keeper_later p.called.cause);
   leads = leads;
@@ -159,14 +154,13 @@ pub sealed_put : {D T W S : Type 0} (devices : Devices D T) (told : Type 0) (wri
     → Rests devices core rest
     → (MayGo (config_of rest.config) ready.begin.key ready.store → (bytes : List ℕ) → (devices.told → AreBytes (upload_of ready) bytes × (bytes_in ready.file ≡ bytes))
         → Called devices rest new (core_put (upload_of ready) moment) ready.store said (λ contents. with_content said bytes contents))
-    → StaysBroken rest new → IsPutReply result said
+    → IsPutReply result said
     → IsPut devices start new moment head content result
-sealed_put {D} {T} {W} {S} devices told written bytes_in start core rest new moment head content upload ready said result put begun target is_ready tells rests calls stays answers =
+sealed_put {D} {T} {W} {S} devices told written bytes_in start core rest new moment head content upload ready said result put begun target is_ready tells rests calls answers =
     upload_put devices start core rest new moment head content ready.store (core_put (upload_of ready) moment) said result put answers (record {
       begun = subst (λ (l : List ℕ). HasBegun devices start core head l) store begun.begun;
       rests = rests;
       called = calls goes content (λ is. (record { sized = sym (made is).sized; digested = sym (made is).digested }, (made is).content_is (tells is)));
-      stays = stays;
       plain = refl;
       is = λ is.
           ap (λ (b : Begin). call.Put b.key b.content_type ready.size ready.sha1 moment) begin

@@ -57,6 +57,7 @@ since_rests {D} {T} devices old mid new entries since rests = record {
   tells = λ is. since.tells (subst (λ (t : T). IsSome (devices.table t)) table is);
   disk_later = grind (arith, since.disk_later, rests.later);
   keeper_later = subst (λ (t : T). devices.keeper_faults old.table ≤ devices.keeper_faults t) (sym table) since.keeper_later;
+  broken = λ cause is. broken ∙ since.broken cause is;
   disk_broke = λ cause was is says. rose_later _ _ _ (since.disk_broke cause was (sym broken ∙ is) says) rests.later;
   keeper_broke = λ cause was is says. subst (λ (t : T). Rose (devices.keeper_faults old.table) (devices.keeper_faults t)) (sym table) (since.keeper_broke cause was (sym broken ∙ is) says);
 }
@@ -74,6 +75,7 @@ rests_since {D} {T} devices old mid new entries rests since = record {
   tells = λ is. subst (λ (t : T). IsSome (devices.table t)) table (since.tells is);
   disk_later = grind (arith, since.disk_later, rests.later);
   keeper_later = subst (λ (t : T). devices.keeper_faults t ≤ devices.keeper_faults new.table) table since.keeper_later;
+  broken = λ cause is. since.broken cause (broken ∙ is);
   disk_broke = λ cause was is says. rose_before _ _ _ rests.later (since.disk_broke cause (broken ∙ was) is says);
   keeper_broke = λ cause was is says. subst (λ (t : T). Rose (devices.keeper_faults t) (devices.keeper_faults new.table)) table (since.keeper_broke cause (broken ∙ was) is says);
 }

@@ -17,13 +17,14 @@ use Rattle.repo_session.specs.Standing.{Stands}
 use Rattle.repo_session.specs.Leads.{IsEntryOf, LeadsBy}
 
 -- From one core to another these entries joined the journal. The configuration stays, counts of faults never fall, a table that is told
--- was told before, and a core that broke did so by a device whose count rose, or for memory.
+-- was told before, a core that was broken stays so by the same cause, and one that broke did so by a device whose count rose, or for memory.
 pub record Since {D T : Type 0} (devices : Devices D T) (old new : CoreView D T) (entries : List Entry) : Type 0 where
   pub journal : new.journal ≡ record old.journal { entries = old.journal.entries ++ entries }
   pub config : new.config ≡ old.config
   pub tells : IsSome (devices.table new.table) → IsSome (devices.table old.table)
   pub disk_later : devices.disk_faults old.disk ≤ devices.disk_faults new.disk
   pub keeper_later : devices.keeper_faults old.table ≤ devices.keeper_faults new.table
+  pub broken : (cause : Cause) → old.broken ≡ Some cause → new.broken ≡ Some cause
   pub disk_broke : (cause : Cause) → old.broken ≡ None → new.broken ≡ Some cause → cause.fault ≡ fault.Disk → Rose (devices.disk_faults old.disk) (devices.disk_faults new.disk)
   pub keeper_broke : (cause : Cause) → old.broken ≡ None → new.broken ≡ Some cause → cause.fault ≡ fault.Keeper → Rose (devices.keeper_faults old.table) (devices.keeper_faults new.table)
 

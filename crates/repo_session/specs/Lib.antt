@@ -15,3 +15,4 @@ pub mod Beginning
 pub mod Saying
 pub mod Heads
 pub mod Feeding
+pub mod Serving

@@ -109,8 +109,9 @@ pub record Turned {D T : Type 0} (devices : Devices D T) (old new : CoreView D T
   pub says : devices.told → IsSome (devices.table new.table) → (state : State) (contents : Contents) → Stands devices old state contents
       → IsAnswer (answer_of contents (record { request = request; stop = stop; entries = entries })) bytes ends
 
--- A download failed: told, only where the disk's count rose.
+-- A download failed: told, only where the disk's count rose. A table that is told was told before.
 abbrev pub DownloadFails : {D T : Type 0} → Devices D T → CoreView D T → CoreView D T → Type 0
 DownloadFails devices old new =
-    devices.told → IsSome (devices.table new.table) → (state : State) (contents : Contents) → Stands devices old state contents
-    → Rose (devices.disk_faults old.disk) (devices.disk_faults new.disk)
+    devices.told → IsSome (devices.table new.table)
+    → IsSome (devices.table old.table)
+    × ((state : State) (contents : Contents) → Stands devices old state contents → Rose (devices.disk_faults old.disk) (devices.disk_faults new.disk))

@@ -8,7 +8,6 @@ ghost use Rattle.repo_model.specs.Plain.{config_of};
 ghost use Rattle.repo_model.specs.declared.call.Call.TheVariants as call;
 ghost use Rattle.repo_model.specs.declared.call.Kind.TheVariants as kinds;
 ghost use Rattle.repo_model.specs.declared.call.RemoteSaid.TheVariants as remote;
-ghost use Rattle.repo_model.specs.declared.reply.Cause.{Cause};
 ghost use Rattle.repo_model.specs.declared.reply.Reply.TheVariants as reply;
 ghost use Rattle.http_front.specs.Contents.{Contents, with_content};
 ghost use Rattle.repo_core.specs.Answers.{reply_of};
@@ -74,7 +73,6 @@ pub(crate) fn put_upload<D: Disk, T: Keeper>(
     ensures called { MayGo (config_of core.old.config) ready.begin.key ready.store → (content : List ℕ) → (D.told → AreBytes (upload_of ready) content × (D.Writer.content ready.file ≡ content))
         → Called (devices D.told D.tree T.table D.faults T.faults) core.old core.new (put_call (upload_of ready) moment) ready.store (reply_of (λ asset. reply.Stored asset) result)
         (λ contents. with_content (reply_of (λ asset. reply.Stored asset) result) content contents) }
-    ensures broken { (cause : Cause) → core.old.broken ≡ Some cause → core.new.broken ≡ Some cause }
     ensures holds { core.new.holds ≡ core.old.holds }
 {
     core.commit_put(0, ready, moment)

@@ -17,7 +17,9 @@ mod puts;
 mod refusals;
 mod responses;
 mod said;
+mod serving;
 
 pub use answering::Answering;
 pub use draws::Draws;
 pub use open_upload::OpenUpload;
+pub use serving::serve;

@@ -1,7 +1,7 @@
 use Rattle.std.proofs.Common.{◌≡◌, ℕ, zero, suc, ◌⊎◌, inl, inr, ◌+◌, ◌-◌, ◌*◌, ◌^◌, ◌<◌, ◌≤◌, List, [], ◌++◌, length, Ok, refl, sym, ap, ◌∙◌, subst, arith, append-nil, length-append}
 use Rattle.std.proofs.KnownBytes.{Appends-nil}
 use Rattle.http_front.specs.Buffers.{Pending, input_limit}
-use Rattle.http_front.specs.Handing.{HandsOver}
+use Rattle.http_front.specs.Handing.{HandsOver, FailsSince}
 use Rattle.http_front.specs.Reading.{Moves, TookHead, MetStop}
 use Rattle.http_front.specs.Replying.{Begins, Finishes, EndsAtLast, EndsJustAtLast}
 use Rattle.http_front.specs.Sessions.{ChainEndsAs}
@@ -41,19 +41,19 @@ requests-init g c = record {
 
 pub returns-in-Refused-clause-said : goal.returns-in-Refused-clause-said
 returns-in-Refused-clause-said g c =
-    subst (λ (e : End). ChainEndsAs g.R.Replies.Answers g.R.Replies.Fails g.R.Replies.is_over e c.args.replies.now c.refused.new.self (g.S.Source.left c.args.input.now) (g.S.Source.left c.next_head.new.input) (g.S.Source.ended c.next_head.new.input) (g.K.Sink.taken c.args.output.now) (g.K.Sink.taken c.refused.new.output)) (sym c.of_refusal.ensures)
-    (refused g.R.Replies.Answers g.R.Replies.Fails g.R.Replies.is_over c.args.replies.now c.requests.replies c.refused.new.self _ _ _ _ _ _ _ c.requests.buffer c.in-Refused.why c.in-Refused.bare c.refused.result c.requests.invariant.runs c.in-Refused.ensures.head
-    (joined (g.R.Replies.Answers c.requests.replies c.refused.new.self (stream.refused c.in-Refused.why c.in-Refused.bare)) (g.R.Replies.Fails c.requests.replies c.refused.new.self) ((q : _) × g.R.Replies.Fails q c.refused.new.self) [] _ _ _ c.refused.result (λ f. (c.requests.replies, f)) (Appends-nil _) c.refused.ensures.said) c.refused.ensures.over)
+    subst (λ (e : End). ChainEndsAs g.R.Replies.Answers (FailsSince g.R.Replies.Waits g.R.Replies.Fails) g.R.Replies.is_over e c.args.replies.now c.refused.new.self (g.S.Source.left c.args.input.now) (g.S.Source.left c.next_head.new.input) (g.S.Source.ended c.next_head.new.input) (g.K.Sink.taken c.args.output.now) (g.K.Sink.taken c.refused.new.output)) (sym c.of_refusal.ensures)
+    (refused g.R.Replies.Answers (FailsSince g.R.Replies.Waits g.R.Replies.Fails) g.R.Replies.is_over c.args.replies.now c.requests.replies c.refused.new.self _ _ _ _ _ _ _ c.requests.buffer c.in-Refused.why c.in-Refused.bare c.refused.result c.requests.invariant.runs c.in-Refused.ensures.head
+    (joined (g.R.Replies.Answers c.requests.replies c.refused.new.self (stream.refused c.in-Refused.why c.in-Refused.bare)) (g.R.Replies.Fails c.requests.replies c.refused.new.self) (FailsSince g.R.Replies.Waits g.R.Replies.Fails c.requests.replies c.refused.new.self) [] _ _ _ c.refused.result (λ f. inl f) (Appends-nil _) c.refused.ensures.said) c.refused.ensures.over)
 
 pub returns-in-End-clause-said : goal.returns-in-End-clause-said
 returns-in-End-clause-said g c =
-    subst (λ (e : End). ChainEndsAs g.R.Replies.Answers g.R.Replies.Fails g.R.Replies.is_over e c.args.replies.now c.requests.replies (g.S.Source.left c.args.input.now) (g.S.Source.left c.next_head.new.input) (g.S.Source.ended c.next_head.new.input) (g.K.Sink.taken c.args.output.now) (g.K.Sink.taken c.requests.output)) (sym c.of_input.ensures)
-    (input_ended g.R.Replies.Answers g.R.Replies.Fails g.R.Replies.is_over c.args.replies.now c.requests.replies _ _ _ _ _ _ c.requests.buffer c.in-End.inside c.requests.invariant.runs c.in-End.ensures.head)
+    subst (λ (e : End). ChainEndsAs g.R.Replies.Answers (FailsSince g.R.Replies.Waits g.R.Replies.Fails) g.R.Replies.is_over e c.args.replies.now c.requests.replies (g.S.Source.left c.args.input.now) (g.S.Source.left c.next_head.new.input) (g.S.Source.ended c.next_head.new.input) (g.K.Sink.taken c.args.output.now) (g.K.Sink.taken c.requests.output)) (sym c.of_input.ensures)
+    (input_ended g.R.Replies.Answers (FailsSince g.R.Replies.Waits g.R.Replies.Fails) g.R.Replies.is_over c.args.replies.now c.requests.replies _ _ _ _ _ _ c.requests.buffer c.in-End.inside c.requests.invariant.runs c.in-End.ensures.head)
 
 pub returns-in-Halt-clause-said : goal.returns-in-Halt-clause-said
 returns-in-Halt-clause-said g c =
-    subst (λ (e : End). ChainEndsAs g.R.Replies.Answers g.R.Replies.Fails g.R.Replies.is_over e c.args.replies.now c.requests.replies (g.S.Source.left c.args.input.now) (g.S.Source.left c.next_head.new.input) (g.S.Source.ended c.next_head.new.input) (g.K.Sink.taken c.args.output.now) (g.K.Sink.taken c.requests.output)) (sym c.of_halt.ensures)
-    (halt_said g.R.Replies.Answers g.R.Replies.Fails g.R.Replies.is_over c.args.replies.now c.requests.replies _ _ _ _ _ _ c.requests.buffer _ _ c.in-Halt.halt c.requests.invariant.runs c.in-Halt.ensures.head)
+    subst (λ (e : End). ChainEndsAs g.R.Replies.Answers (FailsSince g.R.Replies.Waits g.R.Replies.Fails) g.R.Replies.is_over e c.args.replies.now c.requests.replies (g.S.Source.left c.args.input.now) (g.S.Source.left c.next_head.new.input) (g.S.Source.ended c.next_head.new.input) (g.K.Sink.taken c.args.output.now) (g.K.Sink.taken c.requests.output)) (sym c.of_halt.ensures)
+    (halt_said g.R.Replies.Answers (FailsSince g.R.Replies.Waits g.R.Replies.Fails) g.R.Replies.is_over c.args.replies.now c.requests.replies _ _ _ _ _ _ c.requests.buffer _ _ c.in-Halt.halt c.requests.invariant.runs c.in-Halt.ensures.head)
 
 pub requests-smaller-in-Ok-Answered : goal.requests-smaller-in-Ok-Answered
 requests-smaller-in-Ok-Answered g c =
@@ -78,7 +78,7 @@ returns-in-Ok-Last-clause-said g c =
 pub returns-in-Err-clause-said : goal.returns-in-Err-clause-said
 returns-in-Err-clause-said g c =
     let t : TookHead (g.S.Source.left c.requests.input) (g.S.Source.left c.next_head.new.input) c.requests.buffer c.next_head.new.buffer c.in-Head.head = c.in-Head.ensures.head in
-    subst (λ (e : End). ChainEndsAs g.R.Replies.Answers g.R.Replies.Fails g.R.Replies.is_over e c.args.replies.now c.begin.new.self (g.S.Source.left c.args.input.now) (g.S.Source.left c.next_head.new.input) (g.S.Source.ended c.next_head.new.input) (g.K.Sink.taken c.args.output.now) (g.K.Sink.taken c.begin.new.output)) (sym c.of_unsaid.ensures)
+    subst (λ (e : End). ChainEndsAs g.R.Replies.Answers (FailsSince g.R.Replies.Waits g.R.Replies.Fails) g.R.Replies.is_over e c.args.replies.now c.begin.new.self (g.S.Source.left c.args.input.now) (g.S.Source.left c.next_head.new.input) (g.S.Source.ended c.next_head.new.input) (g.K.Sink.taken c.args.output.now) (g.K.Sink.taken c.begin.new.output)) (sym c.of_unsaid.ensures)
     (begin_unsaid g.R.Replies.Answers g.R.Replies.Waits g.R.Replies.Fails g.R.Replies.is_over c.args.replies.now c.requests.replies c.begin.new.self _ _ _ _ _ _ _ c.requests.buffer c.next_head.new.buffer c.in-Head.head c.in-Err.unsaid c.requests.invariant.runs t c.in-Err.ensures.said)
 
 pub stopped-requires : goal.stopped-requires
@@ -91,7 +91,7 @@ pub returns-in-Stopped-clause-said : goal.returns-in-Stopped-clause-said
 returns-in-Stopped-clause-said g c =
     let t : TookHead (g.S.Source.left c.requests.input) (g.S.Source.left c.next_head.new.input) c.requests.buffer c.next_head.new.buffer c.in-Head.head = c.in-Head.ensures.head in
     let n : Wants g.R.Replies.Waits c.requests.replies c.begin.new.self c.in-Head.head (g.K.Sink.taken c.requests.output) (g.K.Sink.taken c.begin.new.output) [] = wanted g.R.Replies.Answers g.R.Replies.Waits (g.R.Replies.Fails c.requests.replies c.begin.new.self) c.requests.replies c.begin.new.self c.in-Head.head (g.K.Sink.taken c.requests.output) (g.K.Sink.taken c.begin.new.output) (subst (λ (x : Begun). Begins (g.R.Replies.Answers c.requests.replies c.begin.new.self) (g.R.Replies.Waits c.requests.replies c.begin.new.self c.in-Head.head []) (g.R.Replies.Fails c.requests.replies c.begin.new.self) c.in-Head.head (g.K.Sink.taken c.requests.output) (g.K.Sink.taken c.begin.new.output) (Ok x)) c.in-Ok-Wanted.field-0-is c.in-Ok-Wanted.ensures.said) in
-    subst (λ (e : End). ChainEndsAs g.R.Replies.Answers g.R.Replies.Fails g.R.Replies.is_over e c.args.replies.now c.stopped.new.self (g.S.Source.left c.args.input.now) (g.S.Source.left c.read_content.new.input) (g.S.Source.ended c.read_content.new.input) (g.K.Sink.taken c.args.output.now) (g.K.Sink.taken c.stopped.new.output)) (sym c.of_refusal-in-Stopped.ensures)
+    subst (λ (e : End). ChainEndsAs g.R.Replies.Answers (FailsSince g.R.Replies.Waits g.R.Replies.Fails) g.R.Replies.is_over e c.args.replies.now c.stopped.new.self (g.S.Source.left c.args.input.now) (g.S.Source.left c.read_content.new.input) (g.S.Source.ended c.read_content.new.input) (g.K.Sink.taken c.args.output.now) (g.K.Sink.taken c.stopped.new.output)) (sym c.of_refusal-in-Stopped.ensures)
     (stopped g.R.Replies.Answers g.R.Replies.Waits g.R.Replies.Fails g.R.Replies.is_over c.args.replies.now c.requests.replies c.begin.new.self c.read_content.new.replies c.stopped.new.self _ _ _ _ _ _ _ _ _ _ c.requests.buffer c.next_head.new.buffer c.in-Head.head c.in-Stopped.why c.stopped.result c.requests.invariant.runs t n c.in-Stopped.ensures.content c.stopped.ensures.said c.stopped.ensures.over)
 
 pub returns-in-Cut-clause-said : goal.returns-in-Cut-clause-said
@@ -104,7 +104,7 @@ pub returns-in-Halt-read_content-clause-said : goal.returns-in-Halt-read_content
 returns-in-Halt-read_content-clause-said g c =
     let t : TookHead (g.S.Source.left c.requests.input) (g.S.Source.left c.next_head.new.input) c.requests.buffer c.next_head.new.buffer c.in-Head.head = c.in-Head.ensures.head in
     let n : Wants g.R.Replies.Waits c.requests.replies c.begin.new.self c.in-Head.head (g.K.Sink.taken c.requests.output) (g.K.Sink.taken c.begin.new.output) [] = wanted g.R.Replies.Answers g.R.Replies.Waits (g.R.Replies.Fails c.requests.replies c.begin.new.self) c.requests.replies c.begin.new.self c.in-Head.head (g.K.Sink.taken c.requests.output) (g.K.Sink.taken c.begin.new.output) (subst (λ (x : Begun). Begins (g.R.Replies.Answers c.requests.replies c.begin.new.self) (g.R.Replies.Waits c.requests.replies c.begin.new.self c.in-Head.head []) (g.R.Replies.Fails c.requests.replies c.begin.new.self) c.in-Head.head (g.K.Sink.taken c.requests.output) (g.K.Sink.taken c.begin.new.output) (Ok x)) c.in-Ok-Wanted.field-0-is c.in-Ok-Wanted.ensures.said) in
-    subst (λ (e : End). ChainEndsAs g.R.Replies.Answers g.R.Replies.Fails g.R.Replies.is_over e c.args.replies.now c.cut-in-Halt-read_content.new.self (g.S.Source.left c.args.input.now) (g.S.Source.left c.read_content.new.input) (g.S.Source.ended c.read_content.new.input) (g.K.Sink.taken c.args.output.now) (g.K.Sink.taken c.read_content.new.output)) (sym c.of_halt-in-Halt-read_content.ensures)
+    subst (λ (e : End). ChainEndsAs g.R.Replies.Answers (FailsSince g.R.Replies.Waits g.R.Replies.Fails) g.R.Replies.is_over e c.args.replies.now c.cut-in-Halt-read_content.new.self (g.S.Source.left c.args.input.now) (g.S.Source.left c.read_content.new.input) (g.S.Source.ended c.read_content.new.input) (g.K.Sink.taken c.args.output.now) (g.K.Sink.taken c.read_content.new.output)) (sym c.of_halt-in-Halt-read_content.ensures)
     (cut_halted g.R.Replies.Answers g.R.Replies.Waits g.R.Replies.Fails g.R.Replies.is_over c.args.replies.now c.requests.replies c.begin.new.self c.read_content.new.replies c.cut-in-Halt-read_content.new.self _ _ _ _ _ _ _ _ _ c.requests.buffer c.next_head.new.buffer c.in-Head.head _ _ c.in-Halt-read_content.halt c.requests.invariant.runs t n c.cut-in-Halt-read_content.ensures c.in-Halt-read_content.ensures.content)
 
 pub returns-in-Last-clause-said : goal.returns-in-Last-clause-said
@@ -119,7 +119,7 @@ returns-in-Unsaid-clause-said g c =
     let t : TookHead (g.S.Source.left c.requests.input) (g.S.Source.left c.next_head.new.input) c.requests.buffer c.next_head.new.buffer c.in-Head.head = c.in-Head.ensures.head in
     let n : Wants g.R.Replies.Waits c.requests.replies c.begin.new.self c.in-Head.head (g.K.Sink.taken c.requests.output) (g.K.Sink.taken c.begin.new.output) [] = wanted g.R.Replies.Answers g.R.Replies.Waits (g.R.Replies.Fails c.requests.replies c.begin.new.self) c.requests.replies c.begin.new.self c.in-Head.head (g.K.Sink.taken c.requests.output) (g.K.Sink.taken c.begin.new.output) (subst (λ (x : Begun). Begins (g.R.Replies.Answers c.requests.replies c.begin.new.self) (g.R.Replies.Waits c.requests.replies c.begin.new.self c.in-Head.head []) (g.R.Replies.Fails c.requests.replies c.begin.new.self) c.in-Head.head (g.K.Sink.taken c.requests.output) (g.K.Sink.taken c.begin.new.output) (Ok x)) c.in-Ok-Wanted.field-0-is c.in-Ok-Wanted.ensures.said) in
     let l = c.in-Unsaid.ensures.content in
-    subst (λ (e : End). ChainEndsAs g.R.Replies.Answers g.R.Replies.Fails g.R.Replies.is_over e c.args.replies.now c.read_content.new.replies (g.S.Source.left c.args.input.now) (g.S.Source.left c.read_content.new.input) (g.S.Source.ended c.read_content.new.input) (g.K.Sink.taken c.args.output.now) (g.K.Sink.taken c.read_content.new.output)) (sym c.of_unsaid-in-Unsaid.ensures)
+    subst (λ (e : End). ChainEndsAs g.R.Replies.Answers (FailsSince g.R.Replies.Waits g.R.Replies.Fails) g.R.Replies.is_over e c.args.replies.now c.read_content.new.replies (g.S.Source.left c.args.input.now) (g.S.Source.left c.read_content.new.input) (g.S.Source.ended c.read_content.new.input) (g.K.Sink.taken c.args.output.now) (g.K.Sink.taken c.read_content.new.output)) (sym c.of_unsaid-in-Unsaid.ensures)
     (denied_part g.R.Replies.Answers g.R.Replies.Waits g.R.Replies.Fails g.R.Replies.is_over c.args.replies.now c.requests.replies c.begin.new.self c.read_content.new.replies _ _ _ _ _ _ _ _ _ c.requests.buffer c.next_head.new.buffer c.read_content.new.buffer c.in-Head.head l.0 c.in-Unsaid.unsaid c.requests.invariant.runs t n l.1 l.2)
 
 pub returns-in-Err-whole-clause-said : goal.returns-in-Err-whole-clause-said
@@ -129,7 +129,7 @@ returns-in-Err-whole-clause-said g c =
     let content : List ℕ = c.in-Whole.ensures.content.0 in
     let k = took_both _ _ _ c.requests.buffer c.next_head.new.buffer c.read_content.new.buffer c.in-Head.head content t c.in-Whole.ensures.content.1 in
     let o : Wants g.R.Replies.Waits c.requests.replies c.read_content.new.replies c.in-Head.head (g.K.Sink.taken c.requests.output) (g.K.Sink.taken c.read_content.new.output) content = handed g.R.Replies.Waits c.requests.replies c.begin.new.self c.read_content.new.replies c.in-Head.head (g.K.Sink.taken c.requests.output) (g.K.Sink.taken c.begin.new.output) (g.K.Sink.taken c.read_content.new.output) content n c.in-Whole.ensures.content.2 in
-    subst (λ (e : End). ChainEndsAs g.R.Replies.Answers g.R.Replies.Fails g.R.Replies.is_over e c.args.replies.now c.whole.new.self (g.S.Source.left c.args.input.now) (g.S.Source.left c.read_content.new.input) (g.S.Source.ended c.read_content.new.input) (g.K.Sink.taken c.args.output.now) (g.K.Sink.taken c.whole.new.output)) (sym c.of_unsaid-in-Err-whole.ensures)
+    subst (λ (e : End). ChainEndsAs g.R.Replies.Answers (FailsSince g.R.Replies.Waits g.R.Replies.Fails) g.R.Replies.is_over e c.args.replies.now c.whole.new.self (g.S.Source.left c.args.input.now) (g.S.Source.left c.read_content.new.input) (g.S.Source.ended c.read_content.new.input) (g.K.Sink.taken c.args.output.now) (g.K.Sink.taken c.whole.new.output)) (sym c.of_unsaid-in-Err-whole.ensures)
     (whole_unsaid g.R.Replies.Answers g.R.Replies.Waits g.R.Replies.Fails g.R.Replies.is_over c.args.replies.now c.requests.replies c.read_content.new.replies c.whole.new.self _ _ _ _ _ _ _ _ c.requests.buffer c.read_content.new.buffer c.in-Head.head content c.in-Err-whole.unsaid c.requests.invariant.runs k o (c.in-Err-whole.ensures.said c.requests.replies content o.said o.waits))
 
 pub returns-in-Ok-Last-whole-clause-said : goal.returns-in-Ok-Last-whole-clause-said

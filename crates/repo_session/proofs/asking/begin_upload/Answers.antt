@@ -22,6 +22,7 @@ returns-clause-called g c =
     done.entry
     done.config
     (λ some. still_told (λ s t. t ≡ s) (g.T.Keeper.table old.table) (g.T.Keeper.table new.table) some done.rows)
+    (λ room cause is. done.sound)
     done.disk_cause
     done.keeper_cause
     done.broke_disk

@@ -24,6 +24,7 @@ returns-clause-called g c =
     done.entry
     done.config
     (λ some. still_told (λ s t. new.broken ≡ None → OnErr c.get.result (t ≡ s)) (g.T.Keeper.table old.table) (g.T.Keeper.table new.table) some done.clean_rows)
+    (λ room cause is. ap (λ (core : CoreView g.row.D.Denot g.row.T.Denot). core.broken) (done.broken cause room is).1)
     done.disk_cause
     done.keeper_cause
     done.broke_disk

@@ -6,9 +6,9 @@ pub returns-in-Ok-put_upload-clause-put : goal.returns-in-Ok-put_upload-clause-p
 returns-in-Ok-put_upload-clause-put g c = λ start head content put begun.
     let asset = c.in-Ok-put_upload._asset in
     sealed_put _ _ _ _ start _ _ _ c.args.moment head content _ _ _ _ put begun c.in-Ok.ensures.target c.in-Ok.ensures.ready g.met.D.Disk.writers_tell c.end_upload.ensures.rests
-        c.in-Ok-put_upload.ensures.called c.in-Ok-put_upload.ensures.broken (asset, refl)
+        c.in-Ok-put_upload.ensures.called (asset, refl)
 
 pub returns-in-Err-put_upload-clause-put : goal.returns-in-Err-put_upload-clause-put
 returns-in-Err-put_upload-clause-put g c = λ start head content put begun.
     sealed_put _ _ _ _ start _ _ _ c.args.moment head content _ _ _ _ put begun c.in-Ok.ensures.target c.in-Ok.ensures.ready g.met.D.Disk.writers_tell c.end_upload.ensures.rests
-        c.in-Err-put_upload.ensures.called c.in-Err-put_upload.ensures.broken refl
+        c.in-Err-put_upload.ensures.called refl
