@@ -2,7 +2,7 @@
 use Rattle.std.specs.Prelude.{◌≡◌, ℕ, ◌+◌, Bool, true, List, [], ◌∷◌, Option, None, IsSome}
 use Rattle.std.specs.FinMap as map
 use Rattle.sha1.specs.Sha1.{sha1}
-use Rattle.nx_io.specs.Causes.{RoseBy}
+use Rattle.nx_io.specs.Causes.{Rose, RoseBy}
 use Rattle.nx_base.specs.declared.moment.Moment.{Moment}
 use Rattle.repo_model.specs.declared.entry.Entry.{Entry}
 use Rattle.repo_model.specs.declared.reply.Cause.{Cause}
@@ -26,7 +26,7 @@ use Rattle.repo_core.specs.Stores.{homes_of}
 use Rattle.repo_session.specs.Devices.{Devices}
 use Rattle.repo_session.specs.Drawing.{draw_of}
 use Rattle.repo_session.specs.Turned.{disk_faults_in, keeper_faults_in}
-use Rattle.repo_session.specs.Serving.{all_stop_faults}
+use Rattle.repo_session.specs.Serving.{LastEnds, all_stop_faults}
 use Rattle.nexrepo.specs.declared.run.Ran.{Ran}
 use Rattle.nexrepo.specs.Commands.{IsStdio}
 use Rattle.nexrepo.specs.Configs.{FileGives}
@@ -55,35 +55,40 @@ pub record StandFor {D T : Type 0} (devices : Devices D T) (config : Config) (di
   pub files : HasContents (homes_of config) (contents_in state.rows) (devices.tree disk)
   pub rows : rows_in (devices.table table) ≡ state.rows
 
--- From the repository in which nothing was stored the turns lead on, and what is said in them is what was written. Unless the repository
--- broke, the devices stand for the state at the end. Where nothing failed in a turn, all this is the output of the one-thread repository.
-pub record LeadOn {D T : Type 0} (devices : Devices D T) (setting : Setting) (broken : Option Cause) (disk : D) (table : T) (turns : List Turn) (written : List ℕ) : Type 0 where
+-- From the repository in which nothing was stored the turns lead on, and what is said in them is what was written. The session ends behind
+-- the last one, or not. Unless the repository broke, the devices stand for the state at the end. Where nothing failed in a turn, all this is
+-- the output of the one-thread repository.
+pub record LeadOn {D T : Type 0} (devices : Devices D T) (setting : Setting) (over : Bool) (broken : Option Cause) (disk : D) (table : T) (turns : List Turn) (written : List ℕ) : Type 0 where
   pub state : State
   pub contents : Contents
   pub are : AreTurns setting 0 0 empty_state [] turns state contents
   pub said : written ≡ turns_said [] turns
+  pub ends : LastEnds over [] turns
   pub broken_is : state.broken ≡ broken
   pub stand : broken ≡ None → StandFor devices setting.config disk table state
   pub output : AreSound turns → IsOutput (output_of setting 0 0 empty_state [] (requests_of turns)) [] turns state contents
 
 -- The requests were answered with these bytes by turns of the repository: their entries are the journal, and the disk and the keeper failed
 -- at least as often as they tell. Over fresh devices they lead on from the repository in which nothing was stored.
-pub record HasAnswered {D T : Type 0} (devices : Devices D T) (settings : Settings) (moments : List Moment) (broken : Option Cause) (disk : D) (table : T) (ran : Ran D T) (requests : List Item) (written : List ℕ) : Type 0 where
+pub record HasAnswered {D T : Type 0} (devices : Devices D T) (settings : Settings) (moments : List Moment) (over : Bool) (broken : Option Cause) (disk : D) (table : T) (ran : Ran D T) (requests : List Item) (written : List ℕ) : Type 0 where
   pub turns : List Turn
   pub asked : requests_of turns ≡ requests
   pub journal : ran.journal ≡ record { entries = entries_of turns; room = settings.journal }
   pub disk_failed : RoseBy (disk_faults_in (entries_of turns) + all_stop_faults turns) (devices.disk_faults disk) (devices.disk_faults ran.disk)
   pub keeper_failed : RoseBy (keeper_faults_in (entries_of turns)) (devices.keeper_faults table) (devices.keeper_faults ran.table)
-  pub leads : IsFresh devices disk table ran.table → LeadOn devices (setting_with settings moments) broken ran.disk ran.table turns written
+  pub leads : IsFresh devices disk table ran.table → LeadOn devices (setting_with settings moments) over broken ran.disk ran.table turns written
 
--- A session was held with the settings that the configuration's file gives, and ended so.
+-- A session was held with the settings that the configuration's file gives, and ended so. A download failed, over fresh devices, only where
+-- the disk's count rose.
 pub record HoldsSession {D T : Type 0} (devices : Devices D T) (moments : List Moment) (disk : D) (table : T) (left left' : Option (List ℕ)) (ended : Bool) (taken taken' : Option (List ℕ)) (ran : Ran D T) : Type 0 where
   pub settings : Settings
   pub given : devices.told → FileGives (devices.tree disk config_file) settings
   pub end : End
+  pub over : Bool
   pub broken : Option Cause
   pub status : ran.status ≡ status_of end broken
-  pub ends : EndsAs (HasAnswered devices settings moments broken disk table ran) (λ requests written count. Unit {0}) (Unit {0}) true end left left' ended taken taken'
+  pub ends : EndsAs (HasAnswered devices settings moments over broken disk table ran) (λ requests written count. Unit {0})
+      (IsFresh devices disk table ran.table → Rose (devices.disk_faults disk) (devices.disk_faults ran.disk)) over end left left' ended taken taken'
 
 -- No session was held: nothing was read or written, no file and no row changed, and no call was made.
 pub record EndsEarly {D T S K : Type 0} (devices : Devices D T) (disk : D) (table : T) (input input' : S) (output output' : K) (ran : Ran D T) : Type 0 where
