@@ -1,0 +1,4 @@
+mod WordLemmas
+mod Files
+mod SomeMade
+mod Answered

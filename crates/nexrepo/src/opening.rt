@@ -61,7 +61,10 @@ fn read_config<D: Disk>(alloc: Global, disk: &mut D) -> Result<Config, Status>
     let Some(text) = read_text(alloc, disk)? else {
         return Err(Status::BadConfig { key: None });
     };
-    Config::read(alloc, &text).map_err(|why| refused(why))
+    match Config::read(alloc, &text) {
+        Ok(config) => Ok(config),
+        Err(why) => Err(refused(why)),
+    }
 }
 
 /// Why a folder isn't opened, and its devices.
