@@ -1,5 +1,5 @@
 -- From a session over a core that was just opened to a run.
-use Rattle.std.proofs.Common.{◌≡◌, ℕ, ◌+◌, ◌-◌, ◌^◌, ◌<◌, ◌≤◌, min, Bool, List, [], ◌∷◌, ◌++◌, length, Option, Some, None, IsSome, refl, sym, ◌∙◌, ap, subst, arith}
+use Rattle.std.proofs.Common.{◌≡◌, ℕ, ◌+◌, ◌-◌, ◌^◌, ◌<◌, ◌≤◌, min, Bool, true, false, List, [], ◌∷◌, ◌++◌, length, Option, Some, None, IsSome, refl, sym, ◌∙◌, ap, subst, arith}
 use Rattle.std.specs.FinMap as map
 use Rattle.sha1.specs.Sha1.{sha1}
 use Rattle.nx_base.specs.Order.{key_cmp}
@@ -31,12 +31,15 @@ use Rattle.repo_core.specs.View.{CoreView}
 use Rattle.repo_session.specs.Devices.{Devices}
 use Rattle.repo_session.specs.Standing.{Stands}
 use Rattle.repo_session.specs.Drawing.{draw_of}
-use Rattle.repo_session.specs.Turned.{setting_of, DownloadFails}
-use Rattle.repo_session.specs.Serving.{HasTurns, TurnsLead}
+use Rattle.repo_session.specs.Turned.{setting_of, disk_faults_in, keeper_faults_in, DownloadFails}
+use Rattle.repo_session.specs.Serving.{all_stop_faults, HasTurns, TurnsLead}
 use Rattle.nexrepo.specs.declared.run.Ran.{Ran}
 use Rattle.nexrepo.specs.declared.status.Status.{Status}
 use Rattle.nexrepo.specs.Opening.{IsOpened}
 use Rattle.nexrepo.specs.Running.{IsFresh, StandFor, LeadOn, HasAnswered, StandsBehind, setting_with}
+
+none_there : false ≡ true → ⊥
+none_there e = cc
 
 rose_since : (n first before now : ℕ) → first ≤ before → RoseBy n before now → RoseBy n first now
 rose_since n first before now le rose = omega (arith, le, rose)
@@ -60,7 +63,7 @@ module _ {D T : Type 0} (devices : Devices D T) (moments : List Moment) (disk : 
   stands_first table' fresh = record {
     tracks = opened.stands fresh.told fresh.empty fresh.rowless;
     held = λ sound key asset is. let none : map.get {R = key_cmp} map.empty key ≡ None = map.get-empty {X = Asset} key_cmp key in absurd cc;
-    older = λ blob has. absurd has;
+    older = λ blob has. absurd (none_there has);
   }
 
   module _ (new : CoreView D T) (over : Bool) (ran : Ran D T) (disk_is : ran.disk ≡ new.disk) (table_is : ran.table ≡ new.table) (journal_is : ran.journal ≡ new.journal) where
@@ -99,10 +102,10 @@ module _ {D T : Type 0} (devices : Devices D T) (moments : List Moment) (disk : 
           turns = turns;
           asked = asked;
           journal = journal;
-          disk_failed = subst (λ (d : D). RoseBy _ (devices.disk_faults disk) (devices.disk_faults d)) (sym disk_is) (rose_since _ _ _ _ opened.later runs.disk);
+          disk_failed = subst (λ (d : D). RoseBy (disk_faults_in (entries_of turns) + all_stop_faults turns) (devices.disk_faults disk) (devices.disk_faults d)) (sym disk_is) (rose_since _ _ _ _ opened.later runs.disk);
           keeper_failed =
-              subst (λ (t : T). RoseBy _ (devices.keeper_faults table) (devices.keeper_faults t)) (sym table_is)
-              (subst (λ (t : T). RoseBy _ (devices.keeper_faults t) (devices.keeper_faults new.table)) same_table runs.keeper);
+              subst (λ (t : T). RoseBy (keeper_faults_in (entries_of turns)) (devices.keeper_faults table) (devices.keeper_faults t)) (sym table_is)
+              (subst (λ (t : T). RoseBy (keeper_faults_in (entries_of turns)) (devices.keeper_faults t) (devices.keeper_faults new.table)) same_table runs.keeper);
           leads = λ fresh.
               let tells : IsSome (devices.table new.table) = subst (λ (t : T). IsSome (devices.table t)) table_is fresh.tells in
               let lead = lead_on turns written runs.since.config (runs.leads fresh.told tells empty_state [] (stands_first ran.table fresh)) in

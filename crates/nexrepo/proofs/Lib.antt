@@ -2,3 +2,5 @@ mod WordLemmas
 mod Files
 mod SomeMade
 mod Answered
+mod Causes
+mod Held
