@@ -81,8 +81,8 @@ module _ {D T : Type 0} (devices : Devices D T) (moments : List Moment) (disk : 
     lead_on turns written config lead =
         let number : length core.journal.entries ≡ 0 = ap (λ (j : JournalView). length j.entries) same_journal in
         let are : AreTurns (setting_with opened.settings moments) 0 0 empty_state [] turns lead.next lead.after =
-            subst (λ (s : Setting). AreTurns s 0 0 empty_state [] turns lead.next lead.after) setting_is
-            (subst (λ (n : ℕ). AreTurns (setting_of core (draw_of moments)) 0 n empty_state [] turns lead.next lead.after) number lead.are) in
+        subst (λ (s : Setting). AreTurns s 0 0 empty_state [] turns lead.next lead.after) setting_is
+        (subst (λ (n : ℕ). AreTurns (setting_of core (draw_of moments)) 0 n empty_state [] turns lead.next lead.after) number lead.are) in
         record {
           state = lead.next;
           contents = lead.after;
@@ -97,7 +97,7 @@ module _ {D T : Type 0} (devices : Devices D T) (moments : List Moment) (disk : 
     pub answered : (requests : List Item) (written : List ℕ) → HasTurns devices core new over moments requests written → HasAnswered devices opened.settings moments over new.broken disk table ran requests written
     answered requests written (turns, asked, runs) =
         let journal : ran.journal ≡ record { entries = entries_of turns; room = opened.settings.journal } =
-            journal_is ∙ runs.since.journal ∙ (λ i. record { entries = (same_journal i).entries ++ entries_of turns; room = (same_journal i).room }) in
+        journal_is ∙ runs.since.journal ∙ (λ i. record { entries = (same_journal i).entries ++ entries_of turns; room = (same_journal i).room }) in
         record {
           turns = turns;
           asked = asked;

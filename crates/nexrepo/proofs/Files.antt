@@ -42,14 +42,14 @@ unfolding small_limit
 whole_or_long text bytes is =
     let len : length bytes ≡ min 65537 (length text) = ap (λ (l : List ℕ). length l) is ∙ length-take 65537 text in
     by_length (nat_lt 65536 (length text)) refl len
-    where
-      by_length : (long : Bool) → nat_lt 65536 (length text) ≡ long → length bytes ≡ min 65537 (length text) → (bytes ≡ text) ⊎ ((65536 < length text) × (65536 < length bytes))
-      by_length true test len =
-          let long : 65536 < length text = grind (arith, nat_tests) in
-          inr (long, omega arith)
-      by_length false test len =
-          let short : length text ≤ 65537 = grind (arith, nat_tests) in
-          inl (is ∙ take_all 65537 text short)
+  where
+    by_length : (long : Bool) → nat_lt 65536 (length text) ≡ long → length bytes ≡ min 65537 (length text) → (bytes ≡ text) ⊎ ((65536 < length text) × (65536 < length bytes))
+    by_length true test len =
+        let long : 65536 < length text = grind (arith, nat_tests) in
+        inr (long, omega arith)
+    by_length false test len =
+        let short : length text ≤ 65537 = grind (arith, nat_tests) in
+        inl (is ∙ take_all 65537 text short)
 
 some_is : {A : Type 0} (x y : A) → Some x ≡ Some y → x ≡ y
 some_is x y e = cc

@@ -59,7 +59,7 @@ module _ {D T : Type 0} (devices : Devices D T) (moments : List Moment) (disk : 
       → StandsBehind devices (model_of settings) ran.journal.entries ran.disk ran.table
   session_stands held settings given fresh =
       let some = some_made (HasAnswered devices held.settings moments held.over held.broken disk table ran) (λ requests written count. Unit {0})
-          (IsFresh devices disk table ran.table → Rose (devices.disk_faults disk) (devices.disk_faults ran.disk)) held.over held.end left left' taken taken' ended held.ends in
+      (IsFresh devices disk table ran.table → Rose (devices.disk_faults disk) (devices.disk_faults ran.disk)) held.over held.end left left' taken taken' ended held.ends in
       let behind = stands_behind devices held.settings moments held.over held.broken disk table ran some.0 some.1 some.2 fresh in
       subst (λ (s : Settings). StandsBehind devices (model_of s) ran.journal.entries ran.disk ran.table)
       (one_settings (devices.tree disk config_file) held.settings settings (held.given fresh.told) given) behind

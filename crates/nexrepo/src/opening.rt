@@ -98,11 +98,13 @@ pub fn open<D: Disk, T: Keeper>(
     };
     match open_folder(alloc, disk, table, opening) {
         Ok(core) => Ok(core),
-        Err(NotOpen {
-            why: _,
-            disk,
-            table,
-        }) => Err(Unopened {
+        Err(
+            NotOpen {
+                why: _,
+                disk,
+                table,
+            },
+        ) => Err(Unopened {
             why: Status::NoMemory,
             disk,
             table,

@@ -1,4 +1,4 @@
-use Rattle.std.proofs.Common.{◌≡◌, ℕ, List, inl, inr, refl, sym, ap, subst}
+use Rattle.std.proofs.Common.{◌≡◌, ℕ, List, inl, inr, refl, sym, ◌∙◌, ap, subst}
 use Rattle.nx_base.specs.declared.moment.Moment.{Moment}
 use Rattle.repo_session.specs.Devices.{devices}
 use Rattle.nexrepo.specs.Opening.{IsUnopened}
@@ -29,5 +29,5 @@ returns-in-Ok-open-clause-history g c = λ settings file fresh.
 
 pub returns-in-Err-clause-history : goal.returns-in-Err-clause-history
 returns-in-Err-clause-history g c =
-    let left = rw c.in-Err.field-0-is at c.in-Err.ensures.unopened in
-    rw c.unopened-in-Err.ensures (λ settings given fresh. nothing_stands _ c.args.disk c.in-Err.disk c.args.table c.in-Err.table left.files left.rows settings fresh)
+    let left = c.in-Err.ensures.unopened in
+    rw c.unopened-in-Err.ensures (λ settings given fresh. nothing_stands _ c.args.disk c.in-Err.field-0.disk c.args.table c.in-Err.field-0.table left.files left.rows settings fresh)
