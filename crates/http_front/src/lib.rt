@@ -21,7 +21,8 @@
 //!
 //! The contract of [`run_session`] says of each end ([`End`]) what was read and what was written (`EndsAs`, specs/Sessions.antt),
 //! however the bytes come: the requests that were read have been answered one after another (`Chain`, specs/Chains.antt), each from
-//! where the one before it left, and nothing else was written. Where a write or a download failed, a front of the last answer was.
+//! where the one before it left, no answer but the last ended the session, and nothing else was written. Where a write or a download
+//! failed, a front of the last answer was.
 #![tactic(auto)]
 
 mod begun;

@@ -1,7 +1,7 @@
 //! Sessions over a source and a sink in memory, with replies that answer each request by a line.
 
-ghost use Rattle.std.specs.Prelude.{◌<◌, List, ℕ, OnOk, IfOk};
-ghost use Rattle.http_front.specs.Replying.{IsAnswered, Finishes, IsOverIfLast, HasSinkCause};
+ghost use Rattle.std.specs.Prelude.{◌<◌, List, ℕ};
+ghost use Rattle.http_front.specs.Replying.{IsAnswered, HasSinkCause};
 
 use crate::{Begun, End, Fed, Replies, Unsaid, run_session};
 use http_heads::{BodyErr, Head, HeadErr, Method};
@@ -30,33 +30,19 @@ static BEHIND: &str = "GET /repository/files/behind HTTP/1.1\r\n\r\n";
 #[derive(Drop)]
 struct Lines {
     length: u64,
+    /// The last answer ended the session.
+    over: bool,
 }
 
 /// Writes a line.
-fn say<K: Sink>(output: &mut K, line: &[u8]) -> Result<(), Unsaid>
+fn say<K: Sink>(output: &mut K, line: &str) -> Result<(), Unsaid>
     ensures said { (said : List ℕ) → IsAnswered (λ bytes. Unit {0}) (Unit {0}) said (K.taken output.old) (K.taken output.new) result }
-    ensures over { OnOk result (Unit {0}) }
     ensures cause { HasSinkCause (K.faults output.old) (K.faults output.new) result }
 {
-    match put_all(output, line) {
+    match put_all(output, line.as_bytes()) {
         Ok(()) => Ok(()),
         Err(Failed) => Err(Unsaid::WriteFault),
     }
-}
-
-/// Writes the line of a request, which closes the session or not.
-fn finish<K: Sink>(closes: bool, output: &mut K, line: &[u8]) -> Result<Fed, Unsaid>
-    ensures said { (said : List ℕ) → Finishes (λ bytes. Unit {0}) (Unit {0}) closes said (K.taken output.old) (K.taken output.new) result }
-    ensures over { IfOk result (IsOverIfLast (Unit {0})) }
-    ensures cause { HasSinkCause (K.faults output.old) (K.faults output.new) result }
-{
-    if let Err(unsaid) = say(output, line) {
-        return Err(unsaid);
-    }
-    if closes {
-        return Ok(Fed::Last);
-    }
-    Ok(Fed::Taken)
 }
 
 impl Replies for Lines {
@@ -66,7 +52,7 @@ impl Replies for Lines {
 
     ghost Fails = { λ from to. Unit {0} };
 
-    ghost IsOver = { λ at. Unit {0} };
+    ghost is_over = { λ at. at.over };
 
     fn refused<K: Sink>(
         &mut self,
@@ -74,11 +60,16 @@ impl Replies for Lines {
         _bare: bool,
         output: &mut K,
     ) -> Result<(), Unsaid> {
-        match why {
-            HeadErr::HeadTooLarge => say(output, b"too large\n"),
-            HeadErr::TooManyHeaders => say(output, b"too many\n"),
-            _ => say(output, b"refused\n"),
+        let line = match why {
+            HeadErr::HeadTooLarge => "too large\n",
+            HeadErr::TooManyHeaders => "too many\n",
+            _ => "refused\n",
+        };
+        if let Err(unsaid) = say(output, line) {
+            return Err(unsaid);
         }
+        self.over = true;
+        Ok(())
     }
 
     fn begin<K: Sink>(&mut self, _head: &Head, _output: &mut K) -> Result<Begun, Unsaid> {
@@ -91,12 +82,20 @@ impl Replies for Lines {
     }
 
     fn whole<K: Sink>(&mut self, head: Head, output: &mut K) -> Result<Fed, Unsaid> {
-        match head.method {
-            Method::Get => finish(head.closes, output, b"get\n"),
-            Method::Head => finish(head.closes, output, b"head\n"),
-            Method::Put => finish(head.closes, output, b"put\n"),
-            Method::Delete => finish(head.closes, output, b"delete\n"),
+        let line = match head.method {
+            Method::Get => "get\n",
+            Method::Head => "head\n",
+            Method::Put => "put\n",
+            Method::Delete => "delete\n",
+        };
+        if let Err(unsaid) = say(output, line) {
+            return Err(unsaid);
         }
+        self.over = head.closes;
+        if head.closes {
+            return Ok(Fed::Last);
+        }
+        Ok(Fed::Taken)
     }
 
     fn stopped<K: Sink>(
@@ -105,7 +104,11 @@ impl Replies for Lines {
         _why: BodyErr,
         output: &mut K,
     ) -> Result<(), Unsaid> {
-        say(output, b"stopped\n")
+        if let Err(unsaid) = say(output, "stopped\n") {
+            return Err(unsaid);
+        }
+        self.over = true;
+        Ok(())
     }
 
     fn cut(&mut self, _head: &Head) {}
@@ -115,7 +118,10 @@ impl Replies for Lines {
 fn runs_to(alloc: Global, bytes: &str, piece: usize, want: (End, &str, u64)) -> Result<bool, Fail>
     requires { 0 < piece }
 {
-    let mut replies = Lines { length: 0 };
+    let mut replies = Lines {
+        length: 0,
+        over: false,
+    };
     let input = Vec::from_slice(alloc, bytes.as_bytes())?;
     let mut input = MemSource::new(input, piece, Vec::new(alloc));
     let mut output = MemSink::new(alloc, 1024, Vec::new(alloc))?;

@@ -1,9 +1,7 @@
 -- What the calls of a core are to a session.
-use Rattle.std.proofs.Common.{◌≡◌, ◌≢◌, ◌⊎◌, inl, inr, ℕ, ◌<◌, ◌≤◌, false, List, [], ◌∷◌, ◌++◌, length, IsSome, IfOk, IfErr, OnErr, Option, Some, None, Result, Ok, Err, refl, sym, ◌∙◌, ap, subst, arith, append-nil}
+use Rattle.std.proofs.Common.{◌≡◌, ◌≢◌, inl, inr, ℕ, ◌≤◌, false, List, [], ◌∷◌, ◌++◌, length, IsSome, IfOk, IfErr, OnErr, Option, Some, None, Result, Ok, Err, refl, sym, ◌∙◌, ap, subst, arith, append-nil}
 use Rattle.std.proofs.lemmas.Bool.{cases_lt}
-use Rattle.std.specs.FinMap as map
 use Rattle.nx_io.specs.Causes.{HasCauseWhere, Rose}
-use Rattle.nx_base.specs.declared.key.Key.{Key}
 use Rattle.nx_base.specs.declared.asset.Asset.{Asset}
 use Rattle.nx_base.specs.declared.blob_ref.BlobRef.{BlobRef}
 use Rattle.disk_model.specs.Disk.{Tree, Same}
@@ -21,7 +19,6 @@ use Rattle.repo_model.specs.Config.{Config}
 use Rattle.repo_model.specs.State.{State}
 use Rattle.repo_model.specs.History.{Follows}
 use Rattle.repo_model.specs.Plain.{config_of}
-use Rattle.repo_model.specs.Journal.{JournalView}
 use Rattle.http_front.specs.Contents.{Contents, with_content}
 use Rattle.http_front.specs.Served.{Has}
 use Rattle.http_front.specs.TurnLaws.{ends_upload}
@@ -29,8 +26,7 @@ use Rattle.http_front.specs.Turns.{FollowsAt}
 use Rattle.http_front.proofs.OneOutcome.{follows_at}
 use Rattle.repo_core.specs.declared.hold.Hold.{Hold}
 use Rattle.repo_core.specs.View.{CoreView}
-use Rattle.repo_core.specs.Rows.{rows_in}
-use Rattle.repo_core.specs.Agree.{Agrees, FilesAgree}
+use Rattle.repo_core.specs.Agree.{FilesAgree}
 use Rattle.repo_core.specs.Answers.{IsFull, HasRoom, with_entry, reply_of, entry_of}
 use Rattle.repo_core.specs.Faults.{IsDisk, IsKeeper, RefusedBy}
 use Rattle.repo_core.specs.Standing.{Tracks, Moves, MovesAt}
@@ -40,10 +36,9 @@ use Rattle.repo_core.proofs.Stays.{stay_same}
 use Rattle.repo_session.specs.Devices.{Devices}
 use Rattle.repo_session.specs.Standing.{IsHeld, AreHeld, Stands}
 use Rattle.repo_session.specs.Resting.{Rests}
-use Rattle.repo_session.specs.Leads.{LeadsBy}
 use Rattle.repo_session.specs.Called.{Since, HasDeviceCause, Called}
 use Rattle.repo_session.proofs.Held.{row_reads, row_held, joined, has_before, new_held}
-use Rattle.repo_session.proofs.Leading.{IsAsked, IsNamed, Leads, leads_of, follows_store}
+use Rattle.repo_session.proofs.Leading.{IsAsked, Leads, leads_of, follows_store}
 
 -- what is held is held in files of which nothing can be seen to have changed
 held_same : (config : Config) (tree new : Tree) (s : State) (contents : Contents) → FilesAgree config tree s → Same tree new → AreHeld tree s.rows contents → AreHeld new s.rows contents
@@ -113,13 +108,13 @@ module _ {D T : Type 0} (devices : Devices D T) where
         stands = λ told s contents stands. stands_same old new s contents all (λ none. same told) stands;
       }
 
-  -- a core that isn't broken wasn't, if none is mended
-  pub was_sound : (old new : CoreView D T) → ((cause : Cause) → old.broken ≡ Some cause → new.broken ≡ old.broken) → new.broken ≡ None → old.broken ≡ None
+  -- a core that isn't broken wasn't, if of a broken one all but journal and disk stays
+  pub was_sound : (old new : CoreView D T) → ((cause : Cause) → old.broken ≡ Some cause → new ≡ record old { disk = new.disk; journal = new.journal }) → new.broken ≡ None → old.broken ≡ None
   was_sound old new stays none = by old.broken refl
     where
       by : (o : Option Cause) → old.broken ≡ o → old.broken ≡ None
       by None is = is
-      by (Some cause) is = sym (stays cause is) ∙ none
+      by (Some cause) is = sym (ap (λ (core : CoreView D T). core.broken) (stays cause is)) ∙ none
 
   -- Behind an entry the new core stands for the new state, and for the contents with those that joined, if they hold what was stored.
   stands_after : (old new : CoreView D T) (s t : State) (contents more : Contents) (said : Reply) → Stands devices old s contents → Tracks devices.tree devices.table new t → Leads s said t

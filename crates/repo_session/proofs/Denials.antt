@@ -1,13 +1,10 @@
 -- The turn of an upload that wasn't begun.
-use Rattle.std.proofs.Common.{◌≡◌, inl, inr, ℕ, ◌+◌, ◌≤◌, Bool, true, false, ◌||◌, not, List, [], ◌∷◌, ◌++◌, length, Option, Some, None, IsSome, Result, refl, sym, ap, ◌∙◌, subst, arith, append-nil, true≢false}
-use Rattle.nx_io.specs.Causes.{RoseBy}
+use Rattle.std.proofs.Common.{◌≡◌, inl, inr, ℕ, Bool, true, false, ◌||◌, not, List, [], Option, Some, None, Result, refl, sym, ap, ◌∙◌, subst, arith, append-nil, true≢false}
 use Rattle.nx_base.specs.declared.moment.Moment.{Moment}
 use Rattle.repo_model.specs.declared.call.Call.TheVariants as call
 use Rattle.repo_model.specs.declared.entry.Entry.{Entry}
 use Rattle.repo_model.specs.declared.reply.Refusal.{Refusal}
-use Rattle.repo_model.specs.declared.reply.Reply.{Reply}
 use Rattle.repo_model.specs.declared.reply.Reply.TheVariants as reply
-use Rattle.repo_model.specs.State.{State}
 use Rattle.http_heads.specs.declared.head.Head.{Head}
 use Rattle.http_heads.specs.Head.{is_put}
 use Rattle.http_heads.specs.Response.{Why, refused_with}
@@ -15,21 +12,18 @@ use Rattle.http_requests.specs.Requests.{Item}
 use Rattle.http_front.specs.declared.stop.Stop.TheVariants as stops
 use Rattle.http_front.specs.declared.replies.Unsaid.{Unsaid}
 use Rattle.http_front.specs.Answers.{Answer, first_reply, has_begun, begin_refused}
-use Rattle.http_front.specs.Asking.{IsOf, is_empty}
-use Rattle.http_front.specs.Contents.{Contents}
+use Rattle.http_front.specs.Asking.{is_empty}
 use Rattle.http_front.specs.Replying.{AnswersAll}
 use Rattle.http_front.specs.Responses.{why_stopped, why_refused}
 use Rattle.http_front.specs.Turns.{Turn, contents_after}
 use Rattle.repo_core.specs.View.{CoreView}
 use Rattle.repo_session.specs.Devices.{Devices}
-use Rattle.repo_session.specs.Standing.{Stands}
 use Rattle.repo_session.specs.Leads.{IsEntryOf}
-use Rattle.repo_session.specs.Called.{Since, Called}
+use Rattle.repo_session.specs.Called.{Called}
 use Rattle.repo_session.specs.Sending.{Sent, OnlyWriteFails}
 use Rattle.repo_session.specs.Beginning.{IsDenied}
 use Rattle.repo_session.specs.Uploading.{begin_of}
-use Rattle.repo_session.specs.Turned.{setting_of, TurnMade, TurnLeads, Turned, DownloadFails}
-use Rattle.repo_session.proofs.Makings.{said_to}
+use Rattle.repo_session.specs.Turned.{TurnMade, Turned, DownloadFails}
 use Rattle.repo_session.proofs.Sayings.{answer_denied, answer_stop_first}
 use Rattle.repo_session.proofs.TurnsMade.{turn_of_one, rests_same}
 use Rattle.repo_session.proofs.Uploads.{asks_begin}
@@ -77,7 +71,7 @@ pub denial_said : {D T : Type 0} (devices : Devices D T) (old new : CoreView D T
 denial_said devices old new head why ends w taken taken' sent put called e words was only = record {
   answered = λ moment.
       refused_by (AnswersAll (λ item bytes. Turned devices old new moment item bytes ends) head) (DownloadFails devices old new) [] false ends w (why_refused why) taken taken' sent words
-          (upload_denied devices old new head why ends moment put called e) was only;
+      (upload_denied devices old new head why ends moment put called e) was only;
   goes_on = goes_on_unless head.closes (is_empty head.framing) ends e;
 }
 
@@ -122,7 +116,7 @@ pub no_memory_said : {D T : Type 0} (devices : Devices D T) (old new : CoreView 
 no_memory_said {D} {T} devices old new head w taken taken' sent put same words was only = record {
   answered = λ moment.
       refused_by (AnswersAll (λ item bytes. Turned devices old new moment item bytes true) head) (DownloadFails devices old new) [] false true w (why_stopped stops.NoMemory) taken taken' sent words
-          (subst (λ (core : CoreView D T). AnswersAll (λ item bytes. Turned devices old core moment item bytes true) head (refused_with false true (why_stopped stops.NoMemory))) (sym same)
-          (upload_not_asked devices old head moment put)) was only;
+      (subst (λ (core : CoreView D T). AnswersAll (λ item bytes. Turned devices old core moment item bytes true) head (refused_with false true (why_stopped stops.NoMemory))) (sym same)
+      (upload_not_asked devices old head moment put)) was only;
   goes_on = λ e. absurd (true≢false e);
 }

@@ -3,13 +3,13 @@ use Rattle.std.proofs.Common.{◌≡◌, ℕ, ◌≤◌, Bool, true, false, List
 use Rattle.std.proofs.lemmas.List.{take-append-le}
 use Rattle.std.specs.declared.option.Option.{Option}
 use Rattle.std.specs.Io.KnownBytes.{Appends}
-use Rattle.std.proofs.KnownBytes.{Appends-nil, Appends-trans}
+use Rattle.std.proofs.KnownBytes.{Appends-trans}
 use Rattle.nx_base.specs.declared.moment.Moment.{Moment}
 use Rattle.http_heads.specs.declared.head.Head.{Head}
 use Rattle.http_requests.specs.Requests.{Item, whole, cut}
 use Rattle.http_front.specs.Asking.{is_empty, IsOf}
 use Rattle.http_front.specs.Responses.{continue}
-use Rattle.http_front.specs.Replying.{unread, Begins, IsAnswered, IsPart, AnswersAll}
+use Rattle.http_front.specs.Replying.{unread, Begins, IsAnswered, AnswersAll}
 use Rattle.http_front.specs.declared.begun.Begun.{Begun}
 use Rattle.http_front.specs.declared.replies.Unsaid.{Unsaid}
 use Rattle.http_front.specs.declared.replies.Unsaid.TheVariants.{WriteFault, DownloadFault}
@@ -74,8 +74,10 @@ not_told {D} {T} {W} devices told written old new moment head t t' unsaid (head_
   where
     all : before_content head ≡ continue
     all = rw expects refl
+
     front_within : count ≤ length (before_content head ++ bytes)
     front_within = omega (arith, length-append (before_content head) bytes, ap length all, le)
+
     front_is : take count continue ≡ take count (before_content head ++ bytes)
     front_is = ap (take count) (sym all) ∙ sym (take-append-le count (before_content head) bytes (omega (arith, ap length all, le)))
 

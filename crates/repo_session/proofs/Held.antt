@@ -1,16 +1,14 @@
 -- Contents of rows that stay held, and new ones that join.
-use Rattle.std.proofs.Common.{◌≡◌, ◌≢◌, ◌⊎◌, inl, inr, ℕ, ◌<◌, ◌≤◌, Bool, true, false, List, [], ◌∷◌, ◌++◌, find, is_some, IsTrue, IsSome, if◌then◌else◌, Option, Some, None, refl, sym, ◌∙◌, ap, subst, arith}
+use Rattle.std.proofs.Common.{◌≡◌, ◌⊎◌, inl, inr, ℕ, Bool, true, false, List, [], ◌∷◌, ◌++◌, find, is_some, IsTrue, IsSome, if◌then◌else◌, Option, Some, None, refl, sym, ◌∙◌, ap, subst}
 use Rattle.std.specs.Option.{option_map, option_or}
 use Rattle.std.specs.FinMap as map
 use Rattle.std.proofs.lemmas.List.Folds.{find-append}
 use Rattle.nx_base.specs.Given.{given}
-use Rattle.nx_base.specs.Order.{key_cmp}
 use Rattle.nx_base.specs.declared.key.Key.{Key}
 use Rattle.nx_base.specs.declared.asset.Asset.{Asset}
 use Rattle.nx_base.specs.declared.blob_ref.BlobRef.{BlobRef}
 use Rattle.disk_model.specs.Disk.{Tree}
-use Rattle.tree_content.specs.Blobs.{bytes_name, props_name, IsRef, Reads}
-use Rattle.tree_content.proofs.Blobs.{some_is}
+use Rattle.tree_content.specs.Blobs.{bytes_name, props_name, IsRef}
 use Rattle.repo_model.specs.Config.{Config}
 use Rattle.repo_model.specs.State.{State}
 use Rattle.repo_model.specs.Removal.{same_blob}
@@ -19,7 +17,7 @@ use Rattle.http_front.specs.Served.{Has}
 use Rattle.repo_core.specs.Rows.{content_in}
 use Rattle.repo_core.specs.Agree.{FilesAgree}
 use Rattle.repo_core.specs.Stays.{BytesStay}
-use Rattle.repo_core.proofs.Maps.{two, same_ref, ref_test}
+use Rattle.repo_core.proofs.Maps.{same_ref, ref_test}
 use Rattle.repo_session.specs.Standing.{IsHeld, AreHeld}
 
 -- of two lists the first one's find comes first

@@ -1,5 +1,5 @@
 -- What the calls of a session lead to: which blobs the rows then name, and which are found.
-use Rattle.std.proofs.Common.{◌≡◌, ◌≢◌, ◌⊎◌, inl, inr, ℕ, ◌<◌, ◌≤◌, Bool, true, false, cond, not, ◌&&◌, ◌||◌, nat_le, IfSome, List, [], ◌∷◌, Option, Some, None, Result, Ok, Err, refl, sym, ◌∙◌, ap, subst, arith}
+use Rattle.std.proofs.Common.{◌≡◌, ◌≢◌, ◌⊎◌, inl, inr, ℕ, ◌<◌, ◌≤◌, Bool, true, false, cond, not, ◌&&◌, ◌||◌, nat_le, IfSome, List, Option, Some, None, Ok, Err, refl, sym, ◌∙◌, ap, subst, arith}
 use Rattle.std.specs.FinMap as map
 use Rattle.nx_base.specs.Given.{given}
 use Rattle.nx_base.specs.Fills.{chosen}
@@ -7,7 +7,6 @@ use Rattle.nx_base.specs.Ids.{id_made}
 use Rattle.nx_base.specs.declared.key.Key.{Key}
 use Rattle.nx_base.specs.declared.asset.Asset.{Asset}
 use Rattle.nx_base.specs.declared.blob_ref.BlobRef.{BlobRef}
-use Rattle.nx_base.specs.declared.content_type.ContentType.{ContentType}
 use Rattle.nx_base.specs.declared.moment.Moment.{Moment}
 use Rattle.nx_base.specs.declared.policy.Policy.TheVariants.{NoRedeploy, ReadOnly}
 use Rattle.tree_content.proofs.Blobs.{some_is, none_or_some, same_or_other_key}
@@ -33,7 +32,7 @@ use Rattle.repo_model.specs.Writing.{is_put, bars_put, bars_delete, keeps_row, c
 use Rattle.repo_model.specs.Storing.{Stored, stored, stored_as, with_asset, new_asset, is_taken}
 use Rattle.repo_model.specs.Freshness.{fresh, is_settled}
 use Rattle.repo_model.specs.Serving.{downloaded, served}
-use Rattle.repo_model.specs.Deleting.{without_row, gone}
+use Rattle.repo_model.specs.Deleting.{gone}
 use Rattle.repo_model.specs.Step.{begun, on_begin, put_reply, on_put, unasked, on_get, on_delete, sound_outcome, outcome, Step}
 use Rattle.repo_model.specs.History.{refusal_of, Fails, IsDamaged, Follows}
 use Rattle.repo_model.specs.Laws.{IsLawful}

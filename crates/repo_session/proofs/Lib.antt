@@ -15,3 +15,6 @@ pub mod Leading
 pub mod Calling
 pub mod Gives
 pub mod Lookings
+pub mod TurnsChained
+pub mod ChainTurns
+pub mod Replied

@@ -1,5 +1,5 @@
 -- Answers to GET and HEAD, from what the core gave.
-use Rattle.std.proofs.Common.{◌≡◌, ℕ, ◌-◌, List, [], ◌∷◌, take, slice_get, slice_set, Option, Some, None, IsSome, Result, Err, refl, sym, ap, ◌∙◌, subst}
+use Rattle.std.proofs.Common.{◌≡◌, ℕ, List, [], ◌∷◌, take, slice_get, slice_set, Option, Some, None, IsSome, Result, Err, refl, sym, ap, ◌∙◌, subst}
 use Rattle.std.proofs.Math.Seq.{take-length}
 use Rattle.nx_base.specs.declared.moment.Moment.{Moment}
 use Rattle.nx_base.specs.declared.asset.Asset.{Asset}

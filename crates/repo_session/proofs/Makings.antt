@@ -1,5 +1,5 @@
 -- The calls of a request, made one after another.
-use Rattle.std.proofs.Common.{◌≡◌, ◌⊎◌, inl, inr, ℕ, ◌+◌, ◌<◌, ◌≤◌, Bool, true, false, List, [], ◌∷◌, ◌++◌, length, Option, Some, None, refl, sym, ap, ◌∙◌, subst, arith}
+use Rattle.std.proofs.Common.{◌≡◌, inl, inr, ℕ, ◌+◌, ◌<◌, List, [], ◌∷◌, Option, Some, None, refl, sym, subst}
 use Rattle.nx_base.specs.declared.moment.Moment.{Moment}
 use Rattle.repo_model.specs.declared.call.Call.{Call}
 use Rattle.repo_model.specs.declared.entry.Entry.{Entry}
@@ -8,7 +8,7 @@ use Rattle.repo_model.specs.State.{State}
 use Rattle.http_requests.specs.Requests.{Item}
 use Rattle.http_front.specs.declared.stop.Stop.{Stop}
 use Rattle.http_front.specs.Calls.{next_call, store_in}
-use Rattle.http_front.specs.Turns.{Setting, FollowsAt, IsNextEntry, Makes}
+use Rattle.http_front.specs.Turns.{Setting, FollowsAt, Makes}
 use Rattle.repo_session.specs.Leads.{IsEntryOf, LeadsBy}
 
 -- the entry of a call
@@ -36,10 +36,14 @@ pub makes_two : (setting : Setting) (moment : Moment) (request : Item) (stop : O
     → Makes setting moment request stop [] number state (said_to c first ∷ entries) new
 makes_two setting moment request stop number state mid new c d first said entries asks next fits follows (inl (fits2, e)) leads =
     let by : LeadsBy setting.config (number + 1) mid (store_in (said_to c first ∷ [])) (said_to d said ∷ []) new = subst (λ (l : List Entry). LeadsBy setting.config (number + 1) mid (store_in (said_to c first ∷ [])) l new) e leads in
-    subst (λ (l : List Entry). Makes setting moment request stop [] number state (said_to c first ∷ l) new) (sym e)
-    (mid, record { asked = asks; caller = refl; fits = fits; follows = follows },
-    (new, record { asked = next; caller = refl; fits = fits2; follows = by.0 }, (inl refl, refl)))
+    subst (λ (l : List Entry). Makes setting moment request stop [] number state (said_to c first ∷ l) new) (sym e) (
+      mid,
+      record { asked = asks; caller = refl; fits = fits; follows = follows },
+      (new, record { asked = next; caller = refl; fits = fits2; follows = by.0 }, (inl refl, refl)),
+    )
 makes_two setting moment request stop number state mid new c d first said entries asks next fits follows (inr (full, e, is)) leads =
-    subst (λ (l : List Entry). Makes setting moment request stop [] number state (said_to c first ∷ l) new) (sym e)
-    (mid, record { asked = asks; caller = refl; fits = fits; follows = follows },
-    (inr (inl full), subst (λ (l : List Entry). LeadsBy setting.config (number + 1) mid (store_in (said_to c first ∷ [])) l new) e leads))
+    subst (λ (l : List Entry). Makes setting moment request stop [] number state (said_to c first ∷ l) new) (sym e) (
+      mid,
+      record { asked = asks; caller = refl; fits = fits; follows = follows },
+      (inr (inl full), subst (λ (l : List Entry). LeadsBy setting.config (number + 1) mid (store_in (said_to c first ∷ [])) l new) e leads),
+    )

@@ -12,7 +12,6 @@ use Rattle.http_heads.specs.Response.{Why, head_of, refused_with}
 use Rattle.http_requests.specs.Requests.{whole}
 use Rattle.http_front.specs.declared.replies.Unsaid.{Unsaid}
 use Rattle.http_front.specs.Answers.{Answer, behind, reply_to, last_reply}
-use Rattle.http_front.specs.Asking.{is_head}
 use Rattle.http_front.specs.Contents.{Contents}
 use Rattle.http_front.specs.Replying.{IsAnswered, AnswersAll}
 use Rattle.http_front.specs.Responses.{why_refused, why_stopped}
@@ -23,7 +22,7 @@ use Rattle.repo_session.specs.Resting.{Rests}
 use Rattle.repo_session.specs.Sending.{Sent, OnlyWriteFails}
 use Rattle.repo_session.specs.Uploading.{before_content}
 use Rattle.repo_session.specs.Answering.{HasBegun, stop_of}
-use Rattle.repo_session.specs.Turned.{Turned, DownloadFails}
+use Rattle.repo_session.specs.Turned.{Turned}
 use Rattle.repo_session.specs.Putting.{IsPut, IsPutReply}
 use Rattle.repo_session.proofs.Sayings.{answer_put, put_is_no_head}
 use Rattle.repo_session.proofs.Uploads.{upload_stopped, stop_rose}
@@ -57,7 +56,7 @@ turned_put devices start new moment head content result closes same put is = rec
   says = λ told tells state contents stands.
       let turn : Turn = record { request = whole head content; stop = None; entries = is.entries } in
       let says = answer_put (contents_after turn contents) head content is.entries put is.begun
-          ∙ ap (behind (before_content head)) (reply_to_put (contents_after turn contents) head result (last_reply is.entries) closes same put is.said) in
+      ∙ ap (behind (before_content head)) (reply_to_put (contents_after turn contents) head result (last_reply is.entries) closes same put is.said) in
       record { bytes_are = ap (λ (a : Answer). a.bytes) (sym says); ends_are = ap (λ (a : Answer). a.ends) (sym says) };
 }
 
@@ -69,7 +68,7 @@ pub created_said : {D T : Type 0} (devices : Devices D T) (Fails : Type 0) (star
     → IsAnswered (λ bytes. Turned devices start new moment (whole head content) bytes closes) Fails (before_content head) taken taken' sent
 created_said devices Fails start new moment head content closes taken taken' sent same put is was only =
     answered_by (λ bytes. Turned devices start new moment (whole head content) bytes closes) Fails (before_content head) (head_of 201 None (Some 0) closes) taken taken' sent
-        (turned_put devices start new moment head content (Ok tt) closes same put is) was only
+    (turned_put devices start new moment head content (Ok tt) closes same put is) was only
 
 -- and where that was refused
 pub put_refusal_said : {D T : Type 0} (devices : Devices D T) (Fails : Type 0) (start new : CoreView D T) (moment : Moment) (head : Head) (content : List ℕ) (why : Refusal) (closes : Bool)
@@ -79,7 +78,7 @@ pub put_refusal_said : {D T : Type 0} (devices : Devices D T) (Fails : Type 0) (
     → IsAnswered (λ bytes. Turned devices start new moment (whole head content) bytes closes) Fails (before_content head) taken taken' sent
 put_refusal_said devices Fails start new moment head content why closes w taken taken' sent same put is words was only =
     refused_by (λ bytes. Turned devices start new moment (whole head content) bytes closes) Fails (before_content head) false closes w (why_refused why) taken taken' sent words
-        (turned_put devices start new moment head content (Err why) closes same put is) was only
+    (turned_put devices start new moment head content (Err why) closes same put is) was only
 
 -- It couldn't be sealed: what is an answer to each request with that head is one to it.
 pub unsealed_said : {D T : Type 0} (devices : Devices D T) (Fails Fails' : Type 0) (start new : CoreView D T) (moment : Moment) (head : Head) (content said : List ℕ)
@@ -88,13 +87,14 @@ pub unsealed_said : {D T : Type 0} (devices : Devices D T) (Fails Fails' : Type 
     → IsAnswered (λ bytes. Turned devices start new moment (whole head content) bytes true) Fails' said taken taken' sent
 unsealed_said devices Fails Fails' start new moment head content said taken taken' sent only is =
     answered_as (AnswersAll (λ item bytes. Turned devices start new moment item bytes true) head) (λ bytes. Turned devices start new moment (whole head content) bytes true) Fails Fails' said taken taken' sent
-        (λ bytes all. all (whole head content) refl) only is
+    (λ bytes all. all (whole head content) refl) only is
 
 -- the same where nothing is written any more
 pub unsealed_unsaid : {D T : Type 0} (devices : Devices D T) (start mid new : CoreView D T) (moment : Moment) (head : Head) (content store : List ℕ) (why : UploadErr) (part : ℕ)
     → is_put head.method ≡ true → HasBegun devices start mid head store → Rests devices mid new
     → (why ≡ errors.DiskFault → 0 < part) → TakesBack (devices.disk_faults mid.disk) (devices.disk_faults new.disk) part
     → (bytes : List ℕ) × Turned devices start new moment (whole head content) (before_content head ++ bytes) true
-unsealed_unsaid devices start mid new moment head content store why part put begun rests faulty takes =
-    (refused_with false true (why_stopped (stop_of why)),
-    upload_stopped devices start mid new head store (stop_of why) moment put begun rests (stop_rose why _ _ part faulty takes) (whole head content) refl)
+unsealed_unsaid devices start mid new moment head content store why part put begun rests faulty takes = (
+  refused_with false true (why_stopped (stop_of why)),
+  upload_stopped devices start mid new head store (stop_of why) moment put begun rests (stop_rose why _ _ part faulty takes) (whole head content) refl,
+)

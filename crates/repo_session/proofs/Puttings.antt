@@ -1,8 +1,7 @@
 -- The turn of an upload that came whole and was put.
-use Rattle.std.proofs.Common.{◌≡◌, inl, inr, ℕ, ◌+◌, ◌<◌, ◌≤◌, Bool, true, false, List, [], ◌∷◌, ◌++◌, length, Option, Some, None, IsSome, Result, Ok, Err, refl, sym, ap, ◌∙◌, subst, arith, append_assoc, length-append, unwrap_or}
+use Rattle.std.proofs.Common.{◌≡◌, ℕ, ◌+◌, ◌<◌, ◌≤◌, true, false, List, [], ◌∷◌, ◌++◌, length, Option, Some, None, IsSome, Result, Ok, Err, refl, sym, ap, ◌∙◌, subst, arith, append_assoc, length-append, unwrap_or}
 use Rattle.sha1.specs.Sha1.{sha1}
-use Rattle.nx_io.specs.Causes.{Rose, RoseBy}
-use Rattle.nx_base.specs.declared.asset.Asset.{Asset}
+use Rattle.nx_io.specs.Causes.{Rose}
 use Rattle.nx_base.specs.declared.key.Key.{Key}
 use Rattle.nx_base.specs.declared.moment.Moment.{Moment}
 use Rattle.blob_files.specs.declared.upload.Target.{Target}
@@ -13,8 +12,6 @@ use Rattle.repo_model.specs.declared.call.Call.{Call}
 use Rattle.repo_model.specs.declared.call.Call.TheVariants as call
 use Rattle.repo_model.specs.declared.entry.Entry.{Entry}
 use Rattle.repo_model.specs.declared.reply.Cause.{Cause}
-use Rattle.repo_model.specs.declared.reply.Fault.{Fault}
-use Rattle.repo_model.specs.declared.reply.Fault.TheVariants as fault
 use Rattle.repo_model.specs.declared.reply.Refusal.{Refusal}
 use Rattle.repo_model.specs.declared.reply.Reply.{Reply}
 use Rattle.repo_model.specs.declared.reply.Reply.TheVariants as reply
@@ -27,8 +24,8 @@ use Rattle.repo_model.specs.Plain.{config_of}
 use Rattle.repo_model.specs.State.{State}
 use Rattle.http_heads.specs.declared.head.Head.{Head}
 use Rattle.http_heads.specs.Head.{is_put}
-use Rattle.http_requests.specs.Requests.{Item, whole}
-use Rattle.http_front.specs.Answers.{last_reply, has_begun}
+use Rattle.http_requests.specs.Requests.{whole}
+use Rattle.http_front.specs.Answers.{last_reply}
 use Rattle.http_front.specs.Calls.{put_call}
 use Rattle.http_front.specs.Contents.{Contents, with_content}
 use Rattle.http_front.specs.Served.{Serves}
@@ -42,9 +39,9 @@ use Rattle.repo_session.specs.Called.{Since, Called}
 use Rattle.repo_session.specs.Resting.{Rests}
 use Rattle.repo_session.specs.Uploading.{begin_of}
 use Rattle.repo_session.specs.Answering.{HasBegun, IsBegun}
-use Rattle.repo_session.specs.Turned.{disk_faults_in, keeper_faults_in, setting_of, TurnMade, TurnLeads}
+use Rattle.repo_session.specs.Turned.{setting_of, TurnMade, TurnLeads}
 use Rattle.repo_session.specs.Putting.{IsPut, IsPutReply}
-use Rattle.repo_session.proofs.Makings.{said_to, makes_two}
+use Rattle.repo_session.proofs.Makings.{makes_two}
 use Rattle.repo_session.proofs.Sayings.{last_of_two}
 use Rattle.repo_session.proofs.TurnsMade.{rose_later, rose_before, since_rests, told_before, disk_of_call, keeper_of_call}
 use Rattle.repo_session.proofs.Uploads.{begin_entry, begun_entries, asks_begin}
@@ -97,18 +94,25 @@ put_turn {D} {T} devices start mid rest new moment head content store c said put
   where
     entry : (length start.journal.entries < start.journal.room) × (p.begun.entries ≡ begin_entry head store ∷ [])
     entry = begun_entries _ _ head store p.begun.entries p.begun.made
+
     begun : Since devices start mid (begin_entry head store ∷ [])
     begun = subst (λ (l : List Entry). Since devices start mid l) entry.1 p.begun.since
+
     since : Since devices start rest (begin_entry head store ∷ [])
     since = since_rests devices start mid rest (begin_entry head store ∷ []) begun p.rests
+
     room : rest.journal.room ≡ start.journal.room
     room = ap (λ (j : JournalView). j.room) since.journal
+
     number : length rest.journal.entries ≡ length start.journal.entries + 1
     number = ap (λ (j : JournalView). length j.entries) since.journal ∙ length-append start.journal.entries (begin_entry head store ∷ [])
+
     config : config_of rest.config ≡ config_of start.config
     config = ap config_of since.config
+
     last : last_reply (begin_entry head store ∷ p.called.entries) ≡ said
     last = last_of_two _ _ (begin_of head) store c said p.called.entries p.plain p.called.made
+
     leads : devices.told → IsSome (devices.table new.table) → (draws : ℕ → Moment) (state : State) (contents : Contents) → Stands devices start state contents
         → TurnLeads devices start new moment (record { request = whole head content; stop = None; entries = begin_entry head store ∷ p.called.entries }) draws state contents
     leads told is draws state contents stands =
@@ -116,11 +120,11 @@ put_turn {D} {T} devices start mid rest new moment head content store c said put
         let led = p.called.leads told is begins.0 contents (p.rests.stands told begins.0 contents begins.2) in
         let follows = subst (λ (l : List Entry). LeadsBy (config_of start.config) (length start.journal.entries) state [] l begins.0) entry.1 begins.1 in
         let made = subst (λ (n : ℕ). IsEntryOf start.journal.room n c said p.called.entries) number
-            (subst (λ (r : ℕ). IsEntryOf r (length rest.journal.entries) c said p.called.entries) room p.called.made) in
+        (subst (λ (r : ℕ). IsEntryOf r (length rest.journal.entries) c said p.called.entries) room p.called.made) in
         let by = subst (λ (n : ℕ). LeadsBy (config_of start.config) n begins.0 store p.called.entries led.0) number
-            (subst (λ (g : Config). LeadsBy g (length rest.journal.entries) begins.0 store p.called.entries led.0) config led.1) in
+        (subst (λ (g : Config). LeadsBy g (length rest.journal.entries) begins.0 store p.called.entries led.0) config led.1) in
         let after : with_content (last_reply (begin_entry head store ∷ p.called.entries)) content contents ≡ with_content said content contents =
-            ap (λ (r : Reply). with_content r content contents) last in
+        ap (λ (r : Reply). with_content r content contents) last in
         record {
           next = led.0;
           makes = makes_two (setting_of start draws) moment (whole head content) None (length start.journal.entries) state begins.0 led.0
@@ -153,7 +157,7 @@ pub sealed_put : {D T W S : Type 0} (devices : Devices D T) (told : Type 0) (wri
     → ((bytes : List ℕ) → HasTaken told written upload bytes → IsReady told bytes_in ready bytes) → (devices.told → told)
     → Rests devices core rest
     → (MayGo (config_of rest.config) ready.begin.key ready.store → (bytes : List ℕ) → (devices.told → AreBytes (upload_of ready) bytes × (bytes_in ready.file ≡ bytes))
-        → Called devices rest new (core_put (upload_of ready) moment) ready.store said (λ contents. with_content said bytes contents))
+    → Called devices rest new (core_put (upload_of ready) moment) ready.store said (λ contents. with_content said bytes contents))
     → IsPutReply result said
     → IsPut devices start new moment head content result
 sealed_put {D} {T} {W} {S} devices told written bytes_in start core rest new moment head content upload ready said result put begun target is_ready tells rests calls answers =
@@ -170,16 +174,22 @@ sealed_put {D} {T} {W} {S} devices told written bytes_in start core rest new mom
   where
     asked : Target
     asked = record { begin = begin_of head; store = begun.store }
+
     got : Target
     got = record { begin = ready.begin; store = ready.store }
+
     same : asked ≡ got
     same = same_target asked got (sym begun.target ∙ target)
+
     begin : ready.begin ≡ begin_of head
     begin = ap (λ (t : Target). t.begin) (sym same)
+
     store : begun.store ≡ ready.store
     store = ap (λ (t : Target). t.store) same
+
     made : devices.told → IsReady told bytes_in ready content
     made is = is_ready content (begun.taken is)
+
     goes : MayGo (config_of rest.config) ready.begin.key ready.store
     goes = subst (λ (g : PlainConfig). MayGo (config_of g) ready.begin.key ready.store) (sym (ap (λ (v : CoreView D T). v.config) rests.same))
         (subst (λ (k : Key). MayGo (config_of core.config) k ready.store) (ap (λ (b : Begin). b.key) (sym begin))

@@ -1,10 +1,9 @@
 -- The answer of a turn, by what its calls were answered.
-use Rattle.std.proofs.Common.{◌≡◌, ◌⊎◌, inl, inr, ℕ, ◌+◌, ◌<◌, ◌≤◌, Bool, true, false, ◌&&◌, ◌||◌, not, if◌then◌else◌, List, [], ◌∷◌, ◌++◌, Option, Some, None, refl, sym, ap, ◌∙◌, subst}
+use Rattle.std.proofs.Common.{◌≡◌, inl, inr, ℕ, Bool, true, false, List, [], ◌∷◌, Some, None, refl, sym, ap, ◌∙◌}
 use Rattle.repo_model.specs.declared.call.Call.{Call}
 use Rattle.repo_model.specs.declared.call.Call.TheVariants as call
 use Rattle.repo_model.specs.declared.call.Begin.{Begin}
 use Rattle.repo_model.specs.declared.entry.Entry.{Entry}
-use Rattle.repo_model.specs.declared.reply.Refusal.{Refusal}
 use Rattle.repo_model.specs.declared.reply.Reply.{Reply}
 use Rattle.repo_model.specs.declared.reply.Reply.TheVariants as reply
 use Rattle.repo_model.specs.History.{is_begin}
@@ -16,10 +15,10 @@ use Rattle.http_heads.specs.Head.{is_put}
 use Rattle.http_heads.specs.Response.{why_body}
 use Rattle.http_requests.specs.Requests.{Item, refused, whole, stopped, cut}
 use Rattle.http_front.specs.declared.stop.Stop.{Stop}
-use Rattle.http_front.specs.Asking.{is_head, is_empty, IsOf}
-use Rattle.http_front.specs.Contents.{Contents, with_content}
-use Rattle.http_front.specs.Responses.{continue, why_stopped}
-use Rattle.http_front.specs.Answers.{Answer, behind, last_refusal, full, last_reply, first_reply, has_begun, reply_to, begin_refused, continued, put_answer, silence, response_of}
+use Rattle.http_front.specs.Asking.{is_head, IsOf}
+use Rattle.http_front.specs.Contents.{Contents}
+use Rattle.http_front.specs.Responses.{why_stopped}
+use Rattle.http_front.specs.Answers.{behind, last_refusal, last_reply, first_reply, has_begun, reply_to, begin_refused, continued, silence, response_of}
 use Rattle.repo_session.specs.Leads.{IsEntryOf}
 use Rattle.repo_session.specs.Uploading.{before_content}
 use Rattle.repo_session.proofs.Makings.{said_to}

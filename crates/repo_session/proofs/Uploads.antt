@@ -1,13 +1,10 @@
 -- The turn of an upload that was begun and not put.
-use Rattle.std.proofs.Common.{◌≡◌, ◌⊎◌, inl, inr, ℕ, ◌+◌, ◌<◌, ◌≤◌, Bool, true, false, ◌&&◌, if◌then◌else◌, List, [], ◌∷◌, ◌++◌, length, Option, Some, None, IsSome, Result, refl, sym, ap, ◌∙◌, subst, arith, append-nil}
+use Rattle.std.proofs.Common.{◌≡◌, inl, inr, ℕ, ◌<◌, true, false, List, [], ◌∷◌, ◌++◌, length, Option, Some, None, IsSome, Result, refl, sym, ap, ◌∙◌, subst, arith, append-nil}
 use Rattle.sha1.specs.Sha1.{sha1}
-use Rattle.nx_io.specs.Causes.{Rose, RoseBy}
+use Rattle.nx_io.specs.Causes.{RoseBy}
 use Rattle.nx_base.specs.declared.moment.Moment.{Moment}
-use Rattle.repo_model.specs.declared.call.Call.{Call}
 use Rattle.repo_model.specs.declared.call.Call.TheVariants as call
 use Rattle.repo_model.specs.declared.entry.Entry.{Entry}
-use Rattle.repo_model.specs.declared.reply.Refusal.{Refusal}
-use Rattle.repo_model.specs.declared.reply.Reply.{Reply}
 use Rattle.repo_model.specs.declared.reply.Reply.TheVariants as reply
 use Rattle.repo_model.specs.declared.transfer.UploadErr.{UploadErr}
 use Rattle.repo_model.specs.declared.transfer.UploadErr.TheVariants as errors
@@ -21,8 +18,7 @@ use Rattle.http_heads.specs.Head.{is_put}
 use Rattle.http_heads.specs.Response.{Why, why_body, refused_with}
 use Rattle.http_requests.specs.Requests.{Item, refused, whole, stopped, cut}
 use Rattle.http_front.specs.declared.stop.Stop.{Stop}
-use Rattle.http_front.specs.declared.stop.Stop.TheVariants as stops
-use Rattle.http_front.specs.Answers.{Answer, behind, last_refusal, silence, full, last_reply}
+use Rattle.http_front.specs.Answers.{Answer}
 use Rattle.http_front.specs.Asking.{IsOf}
 use Rattle.http_front.specs.Calls.{call_of, first_call, next_call}
 use Rattle.http_front.specs.Contents.{Contents}
@@ -34,11 +30,11 @@ use Rattle.repo_core.specs.View.{CoreView}
 use Rattle.repo_session.specs.Devices.{Devices}
 use Rattle.repo_session.specs.Standing.{Stands}
 use Rattle.repo_session.specs.Leads.{IsEntryOf, LeadsBy}
-use Rattle.repo_session.specs.Called.{Since, Called}
+use Rattle.repo_session.specs.Called.{Since}
 use Rattle.repo_session.specs.Resting.{Rests}
 use Rattle.repo_session.specs.Uploading.{begin_of, before_content}
 use Rattle.repo_session.specs.Answering.{HasBegun, stop_of}
-use Rattle.repo_session.specs.Turned.{setting_of, stop_faults, TurnMade, TurnLeads, IsAnswer, Turned, DownloadFails}
+use Rattle.repo_session.specs.Turned.{setting_of, stop_faults, TurnMade, TurnLeads, Turned, DownloadFails}
 use Rattle.repo_session.specs.Sending.{Sent, OnlyWriteFails}
 use Rattle.repo_session.proofs.Makings.{said_to, makes_one}
 use Rattle.repo_session.proofs.Sayings.{answer_stop, answer_stopped, answer_cut}
@@ -85,12 +81,16 @@ upload_turn {D} {T} devices start mid new head store item stop moment put of end
   where
     entry : (length start.journal.entries < start.journal.room) × (begun.entries ≡ begin_entry head store ∷ [])
     entry = begun_entries _ _ head store begun.entries begun.made
+
     since : Since devices start mid (begin_entry head store ∷ [])
     since = subst (λ (l : List Entry). Since devices start mid l) entry.1 begun.since
+
     table : new.table ≡ mid.table
     table = ap (λ (v : CoreView D T). v.table) rests.same
+
     last : next_call sha1 moment item stop (begin_entry head store ∷ []) ≡ None
     last = rw ends refl
+
     leads : devices.told → IsSome (devices.table new.table) → (draws : ℕ → Moment) (state : State) (contents : Contents) → Stands devices start state contents
         → TurnLeads devices start new moment (record { request = item; stop = stop; entries = begin_entry head store ∷ [] }) draws state contents
     leads told is draws state contents stands =
@@ -140,7 +140,7 @@ pub stop_said : {D T : Type 0} (devices : Devices D T) (start mid new : CoreView
     → IsAnswered (AnswersAll (λ item bytes. Turned devices start new moment item bytes true) head) (DownloadFails devices mid new) (before_content head) taken taken' result
 stop_said devices start mid new head store why moment w part taken taken' result put begun rests faulty takes words sent only =
     refused_by (AnswersAll (λ item bytes. Turned devices start new moment item bytes true) head) (DownloadFails devices mid new) (before_content head) false true w (why_stopped (stop_of why)) taken taken' result words
-        (upload_stopped devices start mid new head store (stop_of why) moment put begun rests (stop_rose why _ _ part faulty takes)) sent only
+    (upload_stopped devices start mid new head store (stop_of why) moment put begun rests (stop_rose why _ _ part faulty takes)) sent only
 
 -- One whose content was refused is answered with that.
 pub upload_refused : {D T : Type 0} (devices : Devices D T) (start mid new : CoreView D T) (head : Head) (store content : List ℕ) (why : BodyErr) (moment : Moment)
@@ -163,7 +163,7 @@ pub refusal_said : {D T : Type 0} (devices : Devices D T) (start mid new : CoreV
     → IsAnswered (λ bytes. Turned devices start new moment (stopped head content why) bytes true) (DownloadFails devices mid new) (before_content head) taken taken' result
 refusal_said devices start mid new head store content why moment w taken taken' result put begun rests words sent only =
     refused_by (λ bytes. Turned devices start new moment (stopped head content why) bytes true) (DownloadFails devices mid new) (before_content head) false true w (why_body why) taken taken' result words
-        (upload_refused devices start mid new head store content why moment put begun rests) sent only
+    (upload_refused devices start mid new head store content why moment put begun rests) sent only
 
 -- To one that was cut nothing more is said.
 pub upload_cut : {D T : Type 0} (devices : Devices D T) (start mid new : CoreView D T) (head : Head) (store content : List ℕ) (moment : Moment)

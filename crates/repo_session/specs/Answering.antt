@@ -1,8 +1,7 @@
 -- What a request makes of a session's repository, and what stands between its head and the end of its content.
-use Rattle.std.specs.Prelude.{◌≡◌, ℕ, ◌+◌, Bool, true, false, if◌then◌else◌, List, [], ◌∷◌, Option, Some, None}
+use Rattle.std.specs.Prelude.{◌≡◌, ℕ, ◌+◌, Bool, true, false, List, [], Option, Some}
 use Rattle.std.specs.Option.{option_map}
 use Rattle.nx_base.specs.declared.moment.Moment.{Moment}
-use Rattle.nx_base.specs.declared.key.Key.{Key}
 use Rattle.blob_files.specs.declared.upload.Upload.{Upload}
 use Rattle.blob_files.specs.Uploads.{HasTaken}
 use Rattle.repo_model.specs.declared.call.Call.TheVariants as call

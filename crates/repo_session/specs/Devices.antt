@@ -1,5 +1,5 @@
 -- What contracts see of two devices.
-use Rattle.std.specs.Prelude.{ℕ, List, Option}
+use Rattle.std.specs.Prelude.{ℕ, Option}
 use Rattle.disk_model.specs.Disk.{Tree}
 use Rattle.asset_keeper.specs.Table.{Table}
 

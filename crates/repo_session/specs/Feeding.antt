@@ -1,5 +1,5 @@
 -- What became of an upload to which a part came.
-use Rattle.std.specs.Prelude.{◌≡◌, ℕ, ◌≤◌, true, List, [], ◌++◌}
+use Rattle.std.specs.Prelude.{ℕ, ◌≤◌, true, List, [], ◌++◌}
 use Rattle.std.specs.declared.option.Option.{Option}
 use Rattle.std.specs.Io.KnownBytes.{Appends}
 use Rattle.nx_base.specs.declared.moment.Moment.{Moment}

@@ -1,5 +1,5 @@
 -- How uploads begin and end.
-use Rattle.std.specs.Prelude.{◌≡◌, ℕ, ◌<◌, Bool, true, false, List, [], Option, None, Result, Ok, Err}
+use Rattle.std.specs.Prelude.{◌≡◌, ℕ, ◌<◌, true, List, [], None, Result, Ok, Err}
 use Rattle.nx_base.specs.declared.asset.Asset.{Asset}
 use Rattle.nx_base.specs.declared.moment.Moment.{Moment}
 use Rattle.repo_model.specs.declared.call.Call.TheVariants as call

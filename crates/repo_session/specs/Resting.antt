@@ -1,5 +1,5 @@
 -- What it makes of a core that a part of a file is given back to its disk.
-use Rattle.std.specs.Prelude.{◌≡◌, ◌≤◌, IsSome}
+use Rattle.std.specs.Prelude.{◌≡◌, ◌≤◌}
 use Rattle.repo_model.specs.State.{State}
 use Rattle.http_front.specs.Contents.{Contents}
 use Rattle.repo_core.specs.View.{CoreView}

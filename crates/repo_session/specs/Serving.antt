@@ -1,5 +1,5 @@
 -- What a session makes of a core.
-use Rattle.std.specs.Prelude.{◌≡◌, ℕ, ◌+◌, ◌≤◌, Bool, List, [], ◌∷◌, ◌++◌, length, map, sum, IsSome}
+use Rattle.std.specs.Prelude.{◌≡◌, ℕ, ◌+◌, ◌≤◌, Bool, List, [], ◌∷◌, ◌++◌, length, sum_by, IsSome}
 use Rattle.nx_io.specs.Causes.{RoseBy}
 use Rattle.nx_base.specs.declared.moment.Moment.{Moment}
 use Rattle.repo_model.specs.State.{State}
@@ -15,7 +15,7 @@ use Rattle.repo_session.specs.Turned.{setting_of, disk_faults_in, keeper_faults_
 
 -- how many of the turns were stopped by a fault of the disk
 abbrev pub all_stop_faults : List Turn → ℕ
-all_stop_faults turns = sum (map (λ turn. stop_faults turn.stop) turns)
+all_stop_faults turns = sum_by (λ turn. stop_faults turn.stop) turns
 
 -- the session ends behind the last of the turns, or not
 abbrev pub LastEnds : Bool → Contents → List Turn → Type 0

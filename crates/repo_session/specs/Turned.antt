@@ -1,5 +1,5 @@
 -- What one request makes of a core.
-use Rattle.std.specs.Prelude.{◌≡◌, ℕ, ◌+◌, Bool, true, false, List, [], ◌∷◌, length, count_by, Option, Some, None, IsSome}
+use Rattle.std.specs.Prelude.{◌≡◌, ℕ, ◌+◌, Bool, true, false, List, [], length, count_by, Option, Some, None, IsSome}
 use Rattle.sha1.specs.Sha1.{sha1}
 use Rattle.nx_io.specs.Causes.{Rose, RoseBy}
 use Rattle.nx_base.specs.declared.moment.Moment.{Moment}

@@ -64,12 +64,7 @@ impl<D: Disk, T: Keeper> Replies for Answering<D, T, D::Writer> {
 
     ghost is_over = { λ x. x.over };
 
-    fn refused<K: Sink>(
-        &mut self,
-        why: HeadErr,
-        bare: bool,
-        output: &mut K,
-    ) -> Result<(), Unsaid> {
+    fn refused<K: Sink>(&mut self, why: HeadErr, bare: bool, output: &mut K) -> Result<(), Unsaid> {
         self.draws.draw();
         self.over = true;
         let (status, word) = why.answer();
@@ -116,14 +111,15 @@ impl<D: Disk, T: Keeper> Replies for Answering<D, T, D::Writer> {
 
     fn whole<K: Sink>(&mut self, head: Head, output: &mut K) -> Result<Fed, Unsaid> {
         let moment = self.draws.draw();
-        let said = if is_put(head.method) {
-            let Some(open) = self.upload.take() else {
-                return Ok(self.end());
-            };
-            answer_put(&mut self.core, open, head.closes, moment, output)
-        } else {
-            answer_bodiless(&mut self.core, head, moment, output)
+        if !is_put(head.method) {
+            let said = answer_bodiless(&mut self.core, head, moment, output);
+            self.over = said.ends;
+            return fed(said.ends, said.sent);
+        }
+        let Some(open) = self.upload.take() else {
+            return Ok(self.end());
         };
+        let said = answer_put(&mut self.core, open, head.closes, moment, output);
         self.over = said.ends;
         fed(said.ends, said.sent)
     }

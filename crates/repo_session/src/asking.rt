@@ -100,10 +100,7 @@ pub(crate) fn end_upload<D: Disk, T: Keeper>(core: &mut Core<D, T>, upload: Uplo
 }
 
 /// Ends a download: the disk takes its reader back, and nothing is held.
-pub(crate) fn end_download<D: Disk, T: Keeper>(
-    core: &mut Core<D, T>,
-    download: Download<D::Reader>,
-)
+pub(crate) fn end_download<D: Disk, T: Keeper>(core: &mut Core<D, T>, download: Download<D::Reader>)
     ensures rests { Rests (devices D.told D.tree T.table D.faults T.faults) core.old core.new }
     ensures cause { TakesBack (D.faults core.old.disk) (D.faults core.new.disk) (D.Reader.faults download.reader) }
     ensures holds { core.new.holds ≡ slice_set core.old.holds 0 None }

@@ -72,11 +72,7 @@ pub(crate) enum Opened<W: Drop> {
 }
 
 /// Begins an upload with that head.
-fn open<D: Disk, T: Keeper>(
-    alloc: Global,
-    core: &mut Core<D, T>,
-    head: &Head,
-) -> Opened<D::Writer>
+fn open<D: Disk, T: Keeper>(alloc: Global, core: &mut Core<D, T>, head: &Head) -> Opened<D::Writer>
     ensures opens { OpensAs (devices D.told D.tree T.table D.faults T.faults) D.Writer.told D.Writer.written core.old core.new head.now result }
     ensures holds { core.new.holds ≡ core.old.holds }
 {

@@ -28,7 +28,10 @@ pub(crate) enum HeadEnd<W: Drop> {
     /// Its content is wanted.
     Wanted(OpenUpload<W>),
     /// It was answered, or a front of an answer was written.
-    Answered { over: bool, begun: Result<Begun, Unsaid> },
+    Answered {
+        over: bool,
+        begun: Result<Begun, Unsaid>,
+    },
 }
 
 /// A head that was answered, behind which the session ends or not.

@@ -17,10 +17,10 @@ use crate::asking::{end_upload, put_upload};
 use crate::open_upload::OpenUpload;
 use crate::refusals::{answer_of, stop_answer};
 use crate::responses::{send_created, send_refusal};
+use crate::said::Said;
 use asset_keeper::Keeper;
 use blob_files::Upload;
 use disk_model::Disk;
-use crate::said::Said;
 use http_front::{Stop, Unsaid};
 use http_heads::BodyErr;
 use nx_base::Moment;
@@ -96,14 +96,14 @@ pub(crate) enum PutEnd<W: Drop> {
 /// Seals an upload and puts it.
 pub(crate) fn finish<D: Disk, T: Keeper>(
     core: &mut Core<D, T>,
-    open: OpenUpload<D::Writer>,
+    opened: OpenUpload<D::Writer>,
     moment: Moment,
 ) -> PutEnd<D::Writer>
-    ensures put { (start : CoreView D T) (head : Head) (content : List ℕ) → is_put head.method ≡ true → IsBegun (devices D.told D.tree T.table D.faults T.faults) D.Writer.told D.Writer.written start core.old head open.upload content
+    ensures put { (start : CoreView D T) (head : Head) (content : List ℕ) → is_put head.method ≡ true → IsBegun (devices D.told D.tree T.table D.faults T.faults) D.Writer.told D.Writer.written start core.old head opened.upload content
         → IsPutAs (devices D.told D.tree T.table D.faults T.faults) D.Writer.faults start core.new moment head content result }
     ensures holds { core.new.holds ≡ core.old.holds }
 {
-    let mut upload = open.upload;
+    let mut upload = opened.upload;
     let ready = match upload.seal() {
         Ok(ready) => ready,
         Err(why) => return PutEnd::Stopped { upload, why },
@@ -118,19 +118,19 @@ pub(crate) fn finish<D: Disk, T: Keeper>(
 /// Answers an upload that came whole.
 pub(crate) fn answer_put<D: Disk, T: Keeper, K: Sink>(
     core: &mut Core<D, T>,
-    open: OpenUpload<D::Writer>,
+    opened: OpenUpload<D::Writer>,
     closes: bool,
     moment: Moment,
     output: &mut K,
 ) -> Said
-    ensures said { (start : CoreView D T) (head : Head) (content : List ℕ) → head.closes ≡ closes → is_put head.method ≡ true → IsBegun (devices D.told D.tree T.table D.faults T.faults) D.Writer.told D.Writer.written start core.old head open.upload content
+    ensures said { (start : CoreView D T) (head : Head) (content : List ℕ) → head.closes ≡ closes → is_put head.method ≡ true → IsBegun (devices D.told D.tree T.table D.faults T.faults) D.Writer.told D.Writer.written start core.old head opened.upload content
         → IsAnswered (λ bytes. Turned (devices D.told D.tree T.table D.faults T.faults) start core.new moment (whole head content) bytes result.ends) (DownloadFails (devices D.told D.tree T.table D.faults T.faults) core.old core.new) (before_content head) (K.taken output.old) (K.taken output.new) result.sent }
     ensures ends { closes ≡ true → result.ends ≡ true }
     ensures cause { HasSinkCause (K.faults output.old) (K.faults output.new) result.sent }
     ensures write { OnlyWriteFails result.sent }
     ensures holds { core.new.holds ≡ core.old.holds }
 {
-    match finish(core, open, moment) {
+    match finish(core, opened, moment) {
         PutEnd::Answered(Ok(())) => {
             let sent = send_created(output, closes);
             Said { ends: closes, sent }
@@ -150,15 +150,15 @@ pub(crate) fn answer_put<D: Disk, T: Keeper, K: Sink>(
 /// Ends an upload that came whole where nothing can be said any more. Answers whether the session would end behind the answer.
 pub(crate) fn finish_unsaid<D: Disk, T: Keeper>(
     core: &mut Core<D, T>,
-    open: OpenUpload<D::Writer>,
+    opened: OpenUpload<D::Writer>,
     closes: bool,
     moment: Moment,
 ) -> bool
-    ensures turned { (start : CoreView D T) (head : Head) (content : List ℕ) → head.closes ≡ closes → is_put head.method ≡ true → IsBegun (devices D.told D.tree T.table D.faults T.faults) D.Writer.told D.Writer.written start core.old head open.upload content
+    ensures turned { (start : CoreView D T) (head : Head) (content : List ℕ) → head.closes ≡ closes → is_put head.method ≡ true → IsBegun (devices D.told D.tree T.table D.faults T.faults) D.Writer.told D.Writer.written start core.old head opened.upload content
         → (bytes : List ℕ) × Turned (devices D.told D.tree T.table D.faults T.faults) start core.new moment (whole head content) (before_content head ++ bytes) result }
     ensures holds { core.new.holds ≡ core.old.holds }
 {
-    match finish(core, open, moment) {
+    match finish(core, opened, moment) {
         PutEnd::Answered(_result) => closes,
         PutEnd::Stopped { upload, why: _ } => {
             end_upload(core, upload);

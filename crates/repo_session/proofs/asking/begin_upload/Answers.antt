@@ -1,4 +1,4 @@
-use Rattle.std.proofs.Common.{◌≡◌, [], None, OnErr, refl, sym, ap, subst}
+use Rattle.std.proofs.Common.{◌≡◌, [], refl, sym, subst}
 use Rattle.repo_model.specs.declared.call.Call.TheVariants as call
 use Rattle.repo_core.specs.View.{CoreView}
 use Rattle.repo_core.specs.Answers.{reply_of}
@@ -32,5 +32,5 @@ returns-clause-called g c =
     leads_plain on old new s contents (call.Begin c.args.begin) (reply_of begun_in c.begin.result) tt refl
     (stores_nothing begun_in c.begin.result (λ v made e. cc))
     (done.moves told some room s stands.tracks) stands
-    (was_sound on old new (λ cause is. done.sound))
+    (was_sound on old new (λ cause is. λ i. record ((done.broken cause room is).1 i) { disk = new.disk }))
     (λ none. stay_same (g.D.Disk.tree old.disk) (g.D.Disk.tree new.disk) (done.files told)))

@@ -1,4 +1,3 @@
-use Rattle.repo_core.specs.View.{CoreView}
 use Rattle.repo_session.specs.Devices.{devices}
 use Rattle.repo_session.proofs.Calling.{rests}
 use Rattle.repo_session.proofs.asking.end_download.Goals as goal

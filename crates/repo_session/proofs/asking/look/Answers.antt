@@ -34,7 +34,7 @@ returns-clause-called g c =
     leads_plain on old new s contents (call.Get c.args.key c.args.look c.args.moment remote.NotAsked) (reply_of found_in c.get.result) tt refl
     (stores_nothing found_in c.get.result found_stores)
     (done.moves told some room s stands.tracks) stands
-    (was_sound on old new (λ cause is. ap (λ (core : CoreView g.row.D.Denot g.row.T.Denot). core.broken) (done.broken cause room is).1))
+    (was_sound on old new (λ cause is. λ i. record ((done.broken cause room is).1 i) { disk = new.disk }))
     (λ none. stay_same (g.D.Disk.tree old.disk) (g.D.Disk.tree new.disk) (done.files told)))
 
 pub returns-clause-gives : goal.returns-clause-gives

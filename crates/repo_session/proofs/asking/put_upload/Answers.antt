@@ -1,4 +1,4 @@
-use Rattle.std.proofs.Common.{◌≡◌, ℕ, List, Some, None, IfOk, OnErr, Result, Err, refl, sym, ap, subst}
+use Rattle.std.proofs.Common.{◌≡◌, ℕ, List, Some, None, IfOk, OnErr, Result, sym, ap, subst}
 use Rattle.nx_base.specs.declared.asset.Asset.{Asset}
 use Rattle.disk_model.specs.Disk.{Same}
 use Rattle.tree_content.specs.Blobs.{bytes_name}
@@ -46,6 +46,6 @@ returns-clause-called g c = λ may content are.
     = subst (λ (l : List ℕ). AreBytes (upload_of c.args.ready) l) (sym bytes.1) bytes.0 in
     leads_put on old new s contents asked c.args.ready.store content result tt
     (done.moves told some room may of_file s stands.tracks) stands
-    (was_sound on old new (λ cause is. ap (λ (core : CoreView g.row.D.Denot g.row.T.Denot). core.broken) (done.broken cause room is).1))
+    (was_sound on old new (λ cause is. (done.broken cause room is).1))
     (done.stays told)
     (subst (λ (l : List ℕ). IfOk result (λ (asset : Asset). g.D.Disk.tree new.disk (bytes_name asset.blob) ≡ Some l)) bytes.1 (done.made told)))

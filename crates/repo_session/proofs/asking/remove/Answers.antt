@@ -1,9 +1,6 @@
-use Rattle.std.proofs.Common.{◌≡◌, [], Option, Some, None, OnErr, refl, sym, ap, subst}
+use Rattle.std.proofs.Common.{◌≡◌, [], None, OnErr, refl, sym, ap, subst}
 use Rattle.repo_model.specs.declared.call.Call.TheVariants as call
 use Rattle.repo_model.specs.declared.reply.Reply.TheVariants as reply
-use Rattle.repo_model.specs.State.{State}
-use Rattle.http_front.specs.Contents.{Contents}
-use Rattle.asset_keeper.specs.Table.{Table}
 use Rattle.repo_core.specs.View.{CoreView}
 use Rattle.repo_core.specs.Answers.{reply_of}
 use Rattle.repo_core.proofs.Tables.{still_told}
@@ -34,5 +31,5 @@ returns-clause-called g c =
     leads_plain on old new s contents (call.Delete c.args.key c.args.moment.now) (reply_of (λ _. reply.Gone) c.delete.result) tt refl
     (stores_nothing (λ _. reply.Gone) c.delete.result (λ v made e. cc))
     (done.moves told some room s stands.tracks) stands
-    (was_sound on old new (λ cause is. ap (λ (core : CoreView g.row.D.Denot g.row.T.Denot). core.broken) (done.broken cause room is).1))
+    (was_sound on old new (λ cause is. λ i. record ((done.broken cause room is).1 i) { disk = new.disk }))
     (done.stays told))

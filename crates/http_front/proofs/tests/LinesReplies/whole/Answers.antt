@@ -1,13 +1,10 @@
 use Rattle.http_front.proofs.tests.LinesReplies.whole.Goals as goal
 
-pub returns-in-Get-clause-said : goal.returns-in-Get-clause-said
-returns-in-Get-clause-said g c = λ start content said h. c.finish.ensures.said said
+pub returns-in-Err-clause-said : goal.returns-in-Err-clause-said
+returns-in-Err-clause-said g c = λ start content said h. c.in-Err.ensures.said said
 
-pub returns-in-Head-clause-said : goal.returns-in-Head-clause-said
-returns-in-Head-clause-said g c = λ start content said h. c.finish-in-Head.ensures.said said
-
-pub returns-in-Put-clause-said : goal.returns-in-Put-clause-said
-returns-in-Put-clause-said g c = λ start content said h. c.finish-in-Put.ensures.said said
+pub returns-then-head-clause-said : goal.returns-then-head-clause-said
+returns-then-head-clause-said g c = λ start content said h. c.in_default.ensures.said said
 
 pub returns-clause-said : goal.returns-clause-said
-returns-clause-said g c = λ start content said h. c.finish-in-Delete.ensures.said said
+returns-clause-said g c = λ start content said h. (c.if-head.false, c.in_default.ensures.said said)
