@@ -1,7 +1,6 @@
-mod StampLemmas
-mod StepLemmas
-mod TrackLemmas
-mod CallLemmas
-mod StandingLemmas
-mod AnsweringLemmas
-mod RunLemmas
+mod WordLemmas
+mod Files
+mod SomeMade
+mod Answered
+mod Causes
+mod Held

@@ -1,11 +1,7 @@
-pub mod FirstConfig
-pub mod StoredAssets
-pub mod Tracking
-pub mod Putting
-pub mod Drawing
-pub mod Sending
-pub mod Answers
-pub mod Standing
 pub mod Statuses
 pub mod Commands
+pub mod Configs
+pub mod Ends
+pub mod Opening
 pub mod Running
+pub mod Sessions

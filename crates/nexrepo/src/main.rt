@@ -1,25 +1,25 @@
 //! nexrepo: a repository server.
 //!
-//! The program is one call, `run`: it takes the words of the command line, a source, a sink and the moments of its clock, and
-//! answers the status. `main` makes the real ones, calls it and ends with the status's number.
+//! The program is one call, `run`: it takes the words of the command line, a source, a sink, a disk, a keeper of rows and the
+//! moments of its clock, and hands the devices back with the status and the journal. `main` makes the devices, calls it and
+//! ends with the status's number.
 //!
 //! - `words` reads the command line;
-//! - `memory_repo` is the repository: assets and their contents in memory;
-//! - `answering` answers requests over it, as the session of `http_front` asks;
-//! - `run` joins them, and its contract says what is written of what is read.
+//! - `opening` reads the configuration from the disk, and opens the folder;
+//! - `run` serves a session over the repository of the folder, and its contract says what is written of what is read, and what
+//!   stands on the devices behind it;
+//! - `devices` makes the disk and the table, which are in memory so far.
 #![tactic(auto)]
 
-mod answering;
-mod draws;
-mod memory_repo;
-mod responses;
+mod devices;
+mod opening;
 mod run;
 mod status;
-mod stored_asset;
 #[cfg(test)]
 mod tests;
 mod words;
 
+use crate::devices::{CONFIG, disk_with, empty_table};
 use crate::run::run;
 use crate::status::Status;
 use nx_base::Moment;
@@ -70,17 +70,34 @@ fn main(rt: HostRuntime) -> io::Result<ExitCode> {
         Err(e) if e.kind() == io::ErrorKind::OutOfMemory => return end(&rt, Status::NoMemory),
         Err(_) => return end(&rt, Status::Usage),
     };
+    let alloc = rt.alloc();
+    let Ok(disk) = disk_with(alloc, CONFIG, Vec::new(alloc)) else {
+        return end(&rt, Status::NoMemory);
+    };
+    let Ok(table) = empty_table(alloc, Vec::new(alloc)) else {
+        return end(&rt, Status::NoMemory);
+    };
     let moments = [moment(&rt)];
     let mut input = RealSource::new(rt.stdin());
     let mut output = RealSink::new(rt.stdout());
-    let status = run(rt.alloc(), &words, &mut input, &mut output, &moments);
-    end(&rt, status)
+    let ran = run(
+        alloc,
+        &words,
+        &mut input,
+        &mut output,
+        disk,
+        table,
+        &moments,
+    );
+    end(&rt, ran.status)
 }
 
 /// Names a status that isn't Ok on standard error, and gives its number.
 fn end(rt: &HostRuntime, status: Status) -> io::Result<ExitCode> {
-    if status != Status::Ok {
-        eprintln!(rt; "nexrepo: {}", status.name())?;
+    match status.detail() {
+        Some(detail) => eprintln!(rt; "nexrepo: {} {detail}", status.name())?,
+        None if status.number() != 0 => eprintln!(rt; "nexrepo: {}", status.name())?,
+        None => {}
     }
     Ok(ExitCode::from(status.number()))
 }

@@ -1,9 +1,11 @@
-use Rattle.std.proofs.Common.{ℕ, List}
-use Rattle.nexrepo.specs.Commands.{IsStdio, texts_of}
-use Rattle.nexrepo.proofs.RunLemmas.{nothing}
+use Rattle.std.proofs.Common.{◌≡◌, refl}
+use Rattle.nexrepo.proofs.Held.{nothing_stands}
 use Rattle.nexrepo.proofs.run.run.Goals as goal
+use Rattle.nexrepo.proofs.run.run.Goals.{in-Ok-Stdio, in-Err-Words, in-Err-NoMemory}
 
-pub returns-in-Err-NoMemory-clause-session : goal.returns-in-Err-NoMemory-clause-session
-returns-in-Err-NoMemory-clause-session g c =
-    let asked : (folder : List ℕ) × IsStdio (texts_of c.args.words.now) folder = rw c.in-Err-NoMemory.field-0-is at c.in-Err-NoMemory.ensures in
-    (asked.0, asked.1, nothing c.args.moments.now _ (g.S.Source.ended c.args.input.now) _)
+pub returns-clause-history : goal.returns-clause-history
+returns-clause-history g c = elim c.match-read_words.branch [
+  | in-Ok-Stdio w ↦ rw w.result-is w.stdio.ensures.history
+  | in-Err-Words w ↦ rw (w.result-is, w.unopened.ensures) (λ settings given fresh. nothing_stands _ c.args.disk c.args.disk c.args.table c.args.table (λ told. refl) refl settings fresh)
+  | in-Err-NoMemory w ↦ rw (w.result-is, w.unopened-in-Err-NoMemory.ensures) (λ settings given fresh. nothing_stands _ c.args.disk c.args.disk c.args.table c.args.table (λ told. refl) refl settings fresh)
+]

@@ -1,17 +1,33 @@
-use Rattle.std.proofs.Common.{sym, subst, arith}
-use Rattle.nexrepo.specs.declared.status.Status.{Status}
-use Rattle.nexrepo.specs.Running.{output_bytes, SessionAs}
-use Rattle.nexrepo.proofs.RunLemmas.{as_status, stands_first, nothing}
+use Rattle.std.proofs.Common.{◌≡◌, ℕ, List, inl, inr, refl, sym, ◌∙◌, ap, subst}
+use Rattle.nx_base.specs.declared.moment.Moment.{Moment}
+use Rattle.repo_session.specs.Devices.{devices}
+use Rattle.nexrepo.specs.Opening.{IsUnopened}
+use Rattle.nexrepo.specs.Running.{HoldsSession}
+use Rattle.nexrepo.specs.Sessions.{HasServed}
+use Rattle.nexrepo.proofs.Held.{holds_session, session_stands, nothing_stands}
 use Rattle.nexrepo.proofs.run.stdio.Goals as goal
 
-pub returns-in_default-clause-session : goal.returns-in_default-clause-session
-returns-in_default-clause-session g c = nothing c.args.moments.now _ (g.S.Source.ended c.args.input.now) _
+pub returns-in_default-clause-history : goal.returns-in_default-clause-history
+returns-in_default-clause-history g c =
+    rw c.unopened.ensures (λ settings given fresh. nothing_stands _ c.args.disk c.args.disk c.args.table c.args.table (λ told. refl) refl settings fresh)
 
-pub returns-in_default-new-clause-session : goal.returns-in_default-new-clause-session
-returns-in_default-new-clause-session g c = nothing c.args.moments.now _ (g.S.Source.ended c.args.input.now) _
+pub returns-in-Ok-open-clause-session : goal.returns-in-Ok-open-clause-session
+returns-in-Ok-open-clause-session g c =
+    inr (holds_session (devices g.D.Disk.told g.D.Disk.tree g.T.Keeper.table g.D.Disk.faults g.T.Keeper.faults) c.args.moments.now c.args.disk c.args.table
+    (g.S.Source.left c.args.input.now) (g.S.Source.left c.session.new.input) (g.S.Source.ended c.session.new.input) (g.K.Sink.taken c.args.output.now) (g.K.Sink.taken c.session.new.output)
+    c.session.result c.in-Ok-open.core c.in-Ok-open.ensures.opened (rw c.in-Ok.ensures.0 at c.session.ensures.session))
 
-pub returns-clause-session : goal.returns-clause-session
-returns-clause-session g c =
-    subst (λ (r : Status). SessionAs c.args.moments.now (g.S.Source.left c.args.input.now) (g.S.Source.left c.run_session.new.input) (g.S.Source.ended c.run_session.new.input) (g.K.Sink.taken c.args.output.now) (g.K.Sink.taken c.run_session.new.output) r) (sym c.status_of.ensures)
-    (as_status c.args.moments.now _ _ _ _ _ c.run_session.result
-    (c.run_session.ensures.said (output_bytes c.args.moments.now) (stands_first _ c.args.moments.now c.in-Ok.ensures (record { all = c.in-Ok-new.ensures.0; next = omega (arith, c.in-Ok-new.ensures.1) }))))
+pub returns-in-Ok-open-clause-history : goal.returns-in-Ok-open-clause-history
+returns-in-Ok-open-clause-history g c = λ settings file fresh.
+    session_stands (devices g.D.Disk.told g.D.Disk.tree g.T.Keeper.table g.D.Disk.faults g.T.Keeper.faults) c.args.moments.now c.args.disk c.args.table
+    (g.S.Source.left c.args.input.now) (g.S.Source.left c.session.new.input) (g.S.Source.ended c.session.new.input) (g.K.Sink.taken c.args.output.now) (g.K.Sink.taken c.session.new.output)
+    c.session.result
+    (holds_session (devices g.D.Disk.told g.D.Disk.tree g.T.Keeper.table g.D.Disk.faults g.T.Keeper.faults) c.args.moments.now c.args.disk c.args.table
+    (g.S.Source.left c.args.input.now) (g.S.Source.left c.session.new.input) (g.S.Source.ended c.session.new.input) (g.K.Sink.taken c.args.output.now) (g.K.Sink.taken c.session.new.output)
+    c.session.result c.in-Ok-open.core c.in-Ok-open.ensures.opened (rw c.in-Ok.ensures.0 at c.session.ensures.session))
+    settings file fresh
+
+pub returns-in-Err-clause-history : goal.returns-in-Err-clause-history
+returns-in-Err-clause-history g c =
+    let left = c.in-Err.ensures.unopened in
+    rw c.unopened-in-Err.ensures (λ settings given fresh. nothing_stands _ c.args.disk c.in-Err.field-0.disk c.args.table c.in-Err.field-0.table left.files left.rows settings fresh)

@@ -1,5 +1,5 @@
 use Rattle.std.proofs.Common.{◌≡◌, refl, subst, string_bytes, bytes_eq, codes, true, false}
-use Rattle.nexrepo.proofs.RunLemmas.{two_items, stdio_words}
+use Rattle.nexrepo.proofs.WordLemmas.{two_items, stdio_words}
 use Rattle.nexrepo.proofs.words.read_words.Goals as goal
 
 pub returns-in-Ok : goal.returns-in-Ok
