@@ -1,4 +1,19 @@
-//! The answers of a session over a core.
+//! A session over a repository: its requests, answered by the calls of a core.
+//!
+//! The words: a *core* is the repository over a disk and a table of rows (`repo_core`). A *turn* is one request with the entries
+//! that its calls made and with what stopped it beside them (`http_front`). A *moment* is drawn for each request, and the last one
+//! repeats ([`Draws`]). What an upload keeps while its content comes is an [`OpenUpload`].
+//!
+//! - `asking` makes the calls of the core: each has one entry, and leads from what the devices stand for to what they then stand for;
+//! - `heads`, `beginnings`, `feeding`, `puts` and `give_up` answer a PUT, from its head to the end of its content, part by part;
+//! - `bodiless`, `looks`, `downloads` and `deletes` answer the others;
+//! - [`Answering`] hands these to `http_front`, as what answers requests;
+//! - [`serve`] runs a session.
+//!
+//! What is promised of [`serve`]: the requests that were read made turns, in their order, whose entries are those by which the
+//! journal grew. Over devices that tell what they hold, each state that they stand for leads on by these turns to one that they stand
+//! for at the end, and what is said in them was written, or a front of it where the sink or a download failed; a content that is given
+//! out is the very bytes of its file (`HasTurns`, specs/Serving.antt). An end tells of a device only where its count of faults rose.
 #![tactic(auto)]
 
 mod answering;
