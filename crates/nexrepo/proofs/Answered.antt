@@ -1,14 +1,12 @@
 -- From a session over a core that was just opened to a run.
-use Rattle.std.proofs.Common.{◌≡◌, ℕ, ◌+◌, ◌-◌, ◌^◌, ◌<◌, ◌≤◌, min, Bool, true, false, List, [], ◌∷◌, ◌++◌, length, Option, Some, None, IsSome, refl, sym, ◌∙◌, ap, subst, arith}
+use Rattle.std.proofs.Common.{◌≡◌, ℕ, ◌+◌, ◌≤◌, Bool, true, false, List, [], ◌++◌, length, Option, None, IsSome, sym, ◌∙◌, ap, subst, arith}
 use Rattle.std.specs.FinMap as map
 use Rattle.sha1.specs.Sha1.{sha1}
 use Rattle.nx_base.specs.Order.{key_cmp}
 use Rattle.nx_base.specs.declared.asset.Asset.{Asset}
-use Rattle.nx_base.specs.declared.key.Key.{Key}
 use Rattle.nx_base.specs.declared.moment.Moment.{Moment}
 use Rattle.nx_io.specs.Causes.{Rose, RoseBy}
 use Rattle.repo_model.specs.declared.entry.Entry.{Entry}
-use Rattle.repo_model.specs.declared.plain.config.PlainConfig.{PlainConfig}
 use Rattle.repo_model.specs.Config.{Config}
 use Rattle.repo_model.specs.declared.reply.Cause.{Cause}
 use Rattle.repo_model.specs.History.{LegalFrom}
@@ -20,11 +18,10 @@ use Rattle.repo_config.specs.Settings.{Settings}
 use Rattle.tree_content.specs.Contents.{HasContents}
 use Rattle.tree_content.proofs.Naming.{named_contents}
 use Rattle.http_requests.specs.Requests.{Item}
-use Rattle.http_front.specs.Contents.{Contents}
 use Rattle.http_front.specs.Turns.{Setting, Turn, AreTurns, entries_of}
 use Rattle.http_front.proofs.SoundTurns.{sound_output}
 use Rattle.http_front.proofs.Histories.{turns_legal}
-use Rattle.repo_core.specs.Rows.{contents_in, rows_in}
+use Rattle.repo_core.specs.Rows.{contents_in}
 use Rattle.repo_core.specs.Stores.{homes_of}
 use Rattle.repo_core.specs.Standing.{Tracks}
 use Rattle.repo_core.specs.View.{CoreView}
@@ -34,7 +31,6 @@ use Rattle.repo_session.specs.Drawing.{draw_of}
 use Rattle.repo_session.specs.Turned.{setting_of, disk_faults_in, keeper_faults_in, DownloadFails}
 use Rattle.repo_session.specs.Serving.{all_stop_faults, HasTurns, TurnsLead}
 use Rattle.nexrepo.specs.declared.run.Ran.{Ran}
-use Rattle.nexrepo.specs.declared.status.Status.{Status}
 use Rattle.nexrepo.specs.Opening.{IsOpened}
 use Rattle.nexrepo.specs.Running.{IsFresh, StandFor, LeadOn, HasAnswered, StandsBehind, setting_with}
 

@@ -1,6 +1,5 @@
 -- A status tells of a fault only where the count of that device rose.
-use Rattle.std.proofs.Common.{◌≡◌, ℕ, List, Option, Some, None, refl, sym}
-use Rattle.nx_io.specs.Causes.{Rose}
+use Rattle.std.proofs.Common.{◌≡◌, ℕ, List, Option, Some, None, refl}
 use Rattle.repo_model.specs.declared.entry.Entry.{Entry}
 use Rattle.repo_model.specs.declared.reply.Cause.{Cause}
 use Rattle.repo_model.specs.declared.reply.Fault.{Fault}

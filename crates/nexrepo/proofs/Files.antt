@@ -1,12 +1,10 @@
 -- The first bytes of the configuration's file, and what the whole of it gives.
-use Rattle.std.proofs.Common.{◌≡◌, ◌⊎◌, inl, inr, ℕ, ◌<◌, ◌≤◌, Bool, true, false, nat_lt, List, length, take, Option, Some, None, Result, Ok, Err, is_ok, refl, sym, ◌∙◌, ap, subst, arith, cond, length-take, take_all, min}
+use Rattle.std.proofs.Common.{◌≡◌, ◌⊎◌, inl, inr, ℕ, ◌<◌, ◌≤◌, Bool, true, false, nat_lt, List, length, take, Option, Some, None, Ok, Err, is_ok, refl, ◌∙◌, ap, subst, arith, length-take, take_all, min}
 use Rattle.std.specs.Option.{option_map}
 use Rattle.std.proofs.lemmas.Bool.Decides.{nat_tests}
 use Rattle.nx_base.specs.Paths.{file_name_of}
 use Rattle.nx_base.proofs.ReadsItself.{file_name_of-same}
-use Rattle.java_props.specs.declared.PropsErr.{PropsErr}
 use Rattle.java_props.specs.declared.PropsErr.TheVariants.{TooLong}
-use Rattle.java_props.specs.Kept.{Entries}
 use Rattle.java_props.specs.Reading.{reading}
 use Rattle.sha1.specs.Sha1.{sha1}
 use Rattle.disk_model.specs.Disk.{small_limit}

@@ -4,7 +4,6 @@ use Rattle.nx_io.specs.Causes.{Rose}
 use Rattle.nx_base.specs.declared.moment.Moment.{Moment}
 use Rattle.repo_model.specs.State.{empty_state}
 use Rattle.repo_config.specs.Model.{model_of}
-use Rattle.repo_config.specs.Reading.{config_of}
 use Rattle.repo_config.specs.Settings.{Settings}
 use Rattle.disk_model.specs.Disk.{Tree}
 use Rattle.tree_content.specs.Contents.{HasContents}

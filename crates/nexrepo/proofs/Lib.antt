@@ -4,3 +4,4 @@ mod SomeMade
 mod Answered
 mod Causes
 mod Held
+pub mod OneFile

@@ -1,5 +1,5 @@
 -- At each end of a session some requests were answered.
-use Rattle.std.proofs.Common.{ℕ, ◌⊎◌, inl, inr, ◌++◌, Bool, List, [], ◌∷◌, Option, refl}
+use Rattle.std.proofs.Common.{ℕ, inl, inr, ◌++◌, Bool, List, [], ◌∷◌, Option, refl}
 use Rattle.http_requests.specs.Requests.{Item, cut}
 use Rattle.http_front.specs.Sessions.{MadeOf, PastOf, HasClosed, EndsAs}
 use Rattle.http_front.specs.declared.end.End.{End}

@@ -1,5 +1,5 @@
 -- The statuses of ends.
-use Rattle.std.specs.Prelude.{ℕ, List, Option, Some, None}
+use Rattle.std.specs.Prelude.{ℕ, Option, Some, None}
 use Rattle.nx_io.specs.Causes.{Rose}
 use Rattle.repo_model.specs.declared.reply.Fault.{Fault}
 use Rattle.repo_model.specs.declared.reply.Fault.TheVariants as fault

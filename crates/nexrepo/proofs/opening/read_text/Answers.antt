@@ -1,4 +1,4 @@
-use Rattle.std.proofs.Common.{◌≡◌, List, ℕ, Option, take, sym, subst}
+use Rattle.std.proofs.Common.{◌≡◌, List, ℕ, take, subst}
 use Rattle.std.specs.Option.{option_map}
 use Rattle.disk_model.specs.Disk.{small_limit}
 use Rattle.nexrepo.specs.Statuses.{config_file}

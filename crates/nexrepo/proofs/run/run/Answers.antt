@@ -1,4 +1,4 @@
-use Rattle.std.proofs.Common.{◌≡◌, refl}
+use Rattle.std.proofs.Common.{refl}
 use Rattle.nexrepo.proofs.Held.{nothing_stands}
 use Rattle.nexrepo.proofs.run.run.Goals as goal
 use Rattle.nexrepo.proofs.run.run.Goals.{in-Ok-Stdio, in-Err-Words, in-Err-NoMemory}

@@ -1,12 +1,10 @@
-use Rattle.std.proofs.Common.{◌≡◌, ℕ, ◌-◌, min, Bool, List, length, refl, sym, ◌∙◌, ap, subst, arith}
-use Rattle.nx_base.specs.declared.moment.Moment.{Moment}
+use Rattle.std.proofs.Common.{◌≡◌, refl, ◌∙◌, ap, arith}
 use Rattle.http_front.specs.Turns.{entries_of}
 use Rattle.repo_session.specs.Devices.{devices}
 use Rattle.repo_session.specs.Drawing.{HasDrawn}
 use Rattle.repo_session.specs.Serving.{HasTurns, HasTurnsPast}
 use Rattle.repo_session.specs.Turned.{DownloadFails}
-use Rattle.nexrepo.specs.declared.status.Status.{Status}
-use Rattle.nexrepo.specs.Ends.{HasStatusCause, status_of}
+use Rattle.nexrepo.specs.Ends.{status_of}
 use Rattle.nexrepo.proofs.SomeMade.{some_made}
 use Rattle.nexrepo.proofs.Causes.{status_cause}
 use Rattle.nexrepo.proofs.run.session.Goals as goal

@@ -1,9 +1,5 @@
-use Rattle.std.proofs.Common.{◌≡◌, ℕ, List, inl, inr, refl, sym, ◌∙◌, ap, subst}
-use Rattle.nx_base.specs.declared.moment.Moment.{Moment}
+use Rattle.std.proofs.Common.{inr, refl}
 use Rattle.repo_session.specs.Devices.{devices}
-use Rattle.nexrepo.specs.Opening.{IsUnopened}
-use Rattle.nexrepo.specs.Running.{HoldsSession}
-use Rattle.nexrepo.specs.Sessions.{HasServed}
 use Rattle.nexrepo.proofs.Held.{holds_session, session_stands, nothing_stands}
 use Rattle.nexrepo.proofs.run.stdio.Goals as goal
 
