@@ -7,12 +7,12 @@ pub mod Own
 pub mod Kept
 mod WorkedTurns
 pub mod OneOutcome
-mod Profile
-mod Blanks
+pub mod Profile
+pub mod Blanks
 mod Heads
-mod Comes
+pub mod Comes
 mod Contents
-mod Seeks
+pub mod Seeks
 mod Chained
 mod Handed
 mod Runs

@@ -35,6 +35,7 @@ mod halt;
 mod head_reader;
 mod laws;
 mod look;
+mod refusals;
 mod replies;
 mod session;
 mod stop;
@@ -46,6 +47,8 @@ pub use laws::{
     one_outcome, output_is_turns, rows_hold, sound_turns_are_output, turn_rows_hold,
     turns_are_legal, turns_are_said, turns_go_on,
 };
+pub use look::{Look, look_at};
+pub use refusals::{answer_of, stop_answer};
 pub use replies::{Replies, Unsaid};
 pub use session::run_session;
 pub use stop::Stop;

@@ -1,8 +1,19 @@
 //! Worked sessions over devices in memory.
 
+mod policies;
+mod texts;
+
 use crate::devices::{CONFIG, disk_with, empty_table};
 use crate::run::{Ran, run};
 use crate::status::Status;
+use crate::tests::texts::{
+    BAD_CHUNK, BAD_CHUNK_LAST, BAD_HEAD, BAD_METHOD, BOTH, BOTH_FRAMINGS, BROKEN_KEEPER,
+    CHUNKED_ABC, CLOSING_ABC, CONTINUE, CREATED, DELETE_ABC, DELETE_ELSEWHERE, DISK_FAULT_LAST,
+    FOUND_ABC, FOUND_ABC_BARE, FOUND_ABC_LAST, FOUND_EMPTY, GET_ABC, GET_EMPTY, GET_NONE, GONE,
+    HEAD_ABC, HEAD_NONE, JOURNAL_FULL, KEEPER_FAULT, NO_HEAD, NOT_FOUND, NOT_FOUND_BARE,
+    NOT_FOUND_LAST, OLD_NONE, POST, PUT_ABC, PUT_ELSEWHERE, PUT_EMPTY, PUT_NOTHING_ELSEWHERE,
+    STAMPS_USED, UNKNOWN_REPO, UNKNOWN_REPO_LAST, WAITING_ABC,
+};
 use asset_keeper::MapKeeper;
 use disk_model::{Disk, MemDisk};
 use nx_base::{Moment, Name};
@@ -10,111 +21,6 @@ use nx_io::{MemSink, MemSource};
 use std::alloc::Global;
 use std::process::Abort;
 use std::test::Fail;
-
-static PUT_ABC: &str =
-    "PUT /repository/files/a/b.txt HTTP/1.1\r\nHost: h\r\nContent-Type: text/plain\r\nContent-Length: 3\r\n\r\nabc";
-
-static GET_ABC: &str = "GET /repository/files/a/b.txt HTTP/1.1\r\n\r\n";
-
-static PUT_EMPTY: &str = "PUT /repository/files/e HTTP/1.1\r\nContent-Length: 0\r\n\r\n";
-
-static GET_EMPTY: &str = "GET /repository/files/e HTTP/1.1\r\n\r\n";
-
-static GET_NONE: &str = "GET /repository/files/none HTTP/1.1\r\n\r\n";
-
-static DELETE_ABC: &str = "DELETE /repository/files/a/b.txt HTTP/1.1\r\n\r\n";
-
-static HEAD_ABC: &str = "HEAD /repository/files/a/b.txt HTTP/1.1\r\n\r\n";
-
-static HEAD_NONE: &str = "HEAD /repository/files/none HTTP/1.1\r\n\r\n";
-
-static CHUNKED_ABC: &str =
-    "PUT /repository/files/a/b.txt HTTP/1.1\r\nContent-Type: text/plain\r\nTransfer-Encoding: chunked\r\n\r\n2;x\r\nab\r\n1\r\nc\r\n0\r\nT: t\r\n\r\n";
-
-static WAITING_ABC: &str =
-    "PUT /repository/files/a/b.txt HTTP/1.1\r\nContent-Type: text/plain\r\nExpect: 100-continue\r\nContent-Length: 3\r\n\r\nabc";
-
-static BAD_CHUNK: &str =
-    "PUT /repository/files/a HTTP/1.1\r\nExpect: 100-continue\r\nTransfer-Encoding: chunked\r\n\r\n1\r\na\r\nx\r\n";
-
-static CLOSING_ABC: &str = "GET /repository/files/a/b.txt HTTP/1.1\r\nConnection: a, Close\r\n\r\n";
-
-static OLD_NONE: &str = "GET /repository/files/none HTTP/1.0\r\n\r\n";
-
-static BOTH: &str =
-    "PUT /repository/files/a HTTP/1.1\r\nContent-Length: 3\r\nTransfer-Encoding: chunked\r\n\r\n3\r\nabc\r\n0\r\n\r\n";
-
-static POST: &str = "POST /repository/files/a HTTP/1.1\r\n\r\n";
-
-static PUT_ELSEWHERE: &str =
-    "PUT /repository/other/a HTTP/1.1\r\nExpect: 100-continue\r\nContent-Length: 3\r\n\r\nabc";
-
-static PUT_NOTHING_ELSEWHERE: &str =
-    "PUT /repository/other/a HTTP/1.1\r\nContent-Length: 0\r\n\r\n";
-
-static DELETE_ELSEWHERE: &str = "DELETE /repository/other/a HTTP/1.1\r\n\r\n";
-
-static NO_HEAD: &str = "GET  / HTTP/1.1\r\n\r\n";
-
-static CREATED: &str = "HTTP/1.1 201 Created\r\nContent-Length: 0\r\n\r\n";
-
-static FOUND_ABC: &str =
-    "HTTP/1.1 200 OK\r\nContent-Type: text/plain\r\nContent-Length: 3\r\n\r\nabc";
-
-static FOUND_EMPTY: &str =
-    "HTTP/1.1 200 OK\r\nContent-Type: application/octet-stream\r\nContent-Length: 0\r\n\r\n";
-
-static NOT_FOUND: &str =
-    "HTTP/1.1 404 Not Found\r\nContent-Type: text/plain\r\nContent-Length: 9\r\n\r\nNotFound\n";
-
-static STAMPS_USED: &str =
-    "HTTP/1.1 409 Conflict\r\nContent-Type: text/plain\r\nContent-Length: 11\r\n\r\nStampsUsed\n";
-
-static CONTINUE: &str = "HTTP/1.1 100 Continue\r\n\r\n";
-
-static GONE: &str = "HTTP/1.1 204 No Content\r\n\r\n";
-
-static FOUND_ABC_BARE: &str =
-    "HTTP/1.1 200 OK\r\nContent-Type: text/plain\r\nContent-Length: 3\r\n\r\n";
-
-static NOT_FOUND_BARE: &str =
-    "HTTP/1.1 404 Not Found\r\nContent-Type: text/plain\r\nContent-Length: 9\r\n\r\n";
-
-static FOUND_ABC_LAST: &str =
-    "HTTP/1.1 200 OK\r\nContent-Type: text/plain\r\nContent-Length: 3\r\nConnection: close\r\n\r\nabc";
-
-static NOT_FOUND_LAST: &str =
-    "HTTP/1.1 404 Not Found\r\nContent-Type: text/plain\r\nContent-Length: 9\r\nConnection: close\r\n\r\nNotFound\n";
-
-static BAD_CHUNK_LAST: &str =
-    "HTTP/1.1 400 Bad Request\r\nContent-Type: text/plain\r\nContent-Length: 11\r\nConnection: close\r\n\r\nBadChunk 6\n";
-
-static BOTH_FRAMINGS: &str =
-    "HTTP/1.1 400 Bad Request\r\nContent-Type: text/plain\r\nContent-Length: 13\r\nConnection: close\r\n\r\nBothFramings\n";
-
-static BAD_METHOD: &str =
-    "HTTP/1.1 405 Method Not Allowed\r\nContent-Type: text/plain\r\nContent-Length: 10\r\nAllow: GET, HEAD, PUT, DELETE\r\nConnection: close\r\n\r\nBadMethod\n";
-
-static UNKNOWN_REPO: &str =
-    "HTTP/1.1 404 Not Found\r\nContent-Type: text/plain\r\nContent-Length: 12\r\n\r\nUnknownRepo\n";
-
-static UNKNOWN_REPO_LAST: &str =
-    "HTTP/1.1 404 Not Found\r\nContent-Type: text/plain\r\nContent-Length: 12\r\nConnection: close\r\n\r\nUnknownRepo\n";
-
-static BAD_HEAD: &str =
-    "HTTP/1.1 400 Bad Request\r\nContent-Type: text/plain\r\nContent-Length: 8\r\nConnection: close\r\n\r\nBadHead\n";
-
-static DISK_FAULT_LAST: &str =
-    "HTTP/1.1 500 Internal Server Error\r\nContent-Type: text/plain\r\nContent-Length: 10\r\nConnection: close\r\n\r\nDiskFault\n";
-
-static KEEPER_FAULT: &str =
-    "HTTP/1.1 500 Internal Server Error\r\nContent-Type: text/plain\r\nContent-Length: 12\r\n\r\nKeeperFault\n";
-
-static BROKEN_KEEPER: &str =
-    "HTTP/1.1 503 Service Unavailable\r\nContent-Type: text/plain\r\nContent-Length: 16\r\n\r\nBroken Keeper 1\n";
-
-static JOURNAL_FULL: &str =
-    "HTTP/1.1 503 Service Unavailable\r\nContent-Type: text/plain\r\nContent-Length: 12\r\n\r\nJournalFull\n";
 
 /// The milliseconds of an ordinary moment.
 const NOW: u64 = 1_700_000_000_000;

@@ -6,7 +6,7 @@ use Rattle.std.proofs.lemmas.List.{reverse-append}
 use Rattle.std.proofs.Math.Seq.{take-append_seam, drop-append-add}
 use Rattle.repo_config.specs.declared.form.Subject.TheVariants.{OfAll, OfStore, OfRepo}
 use Rattle.repo_config.specs.declared.form.Word.{Word}
-use Rattle.repo_config.specs.declared.form.Word.TheVariants.{Stores, Repositories, Journal, Kind, Layout, Store}
+use Rattle.repo_config.specs.declared.form.Word.TheVariants.{Stores, Repositories, Journal, Kind, Layout, Store, Policy}
 use Rattle.repo_config.specs.Words.{text}
 use Rattle.repo_config.specs.Keys.{is_dot, has_dot, tail_of, key_text}
 use Rattle.repo_config.specs.Laws.{IsParted}
@@ -22,6 +22,7 @@ behind front Journal = ap (prefix_len is_other) (reverse-append front (46 ∷ te
 behind front Kind = ap (prefix_len is_other) (reverse-append front (46 ∷ text Kind))
 behind front Layout = ap (prefix_len is_other) (reverse-append front (46 ∷ text Layout))
 behind front Store = ap (prefix_len is_other) (reverse-append front (46 ∷ text Store))
+behind front Policy = ap (prefix_len is_other) (reverse-append front (46 ∷ text Policy))
 
 -- where the last dot stands
 place : (front : List ℕ) (word : Word) → length (front ++ 46 ∷ text word) - suffix_len is_other (front ++ 46 ∷ text word) ≡ length front + 1

@@ -14,9 +14,9 @@ use Rattle.repo_config.specs.declared.form.Subject.{Subject}
 use Rattle.repo_config.specs.declared.form.Subject.TheVariants.{OfStore, OfRepo}
 use Rattle.repo_config.specs.declared.form.Word.TheVariants as word
 use Rattle.repo_config.specs.declared.form.Rule.{Rule}
-use Rattle.repo_config.specs.declared.form.Rule.TheVariants.{Names, KindName, LayoutName, StoreOf, Number}
+use Rattle.repo_config.specs.declared.form.Rule.TheVariants.{Names, KindName, LayoutName, StoreOf, PolicyWord, Number}
 use Rattle.repo_config.specs.declared.form.Absent.{Absent}
-use Rattle.repo_config.specs.declared.form.Absent.TheVariants.{Empty, IsKind, IsLayout, IsNumber, Required}
+use Rattle.repo_config.specs.declared.form.Absent.TheVariants.{Empty, IsKind, IsLayout, IsPolicy, IsNumber, Required}
 use Rattle.repo_config.specs.Words.{text}
 use Rattle.repo_config.specs.Keys.{subject_of, middle_of, tail_of, key_text}
 use Rattle.repo_config.specs.Lists.{has_name}
@@ -64,6 +64,7 @@ abbrev pub is_required : Absent → Bool
 is_required Empty = false
 is_required (IsKind kind) = false
 is_required (IsLayout layout) = false
+is_required (IsPolicy policy) = false
 is_required (IsNumber n) = false
 is_required Required = true
 
@@ -73,6 +74,7 @@ names_store (Names of) = false
 names_store KindName = false
 names_store LayoutName = false
 names_store StoreOf = true
+names_store PolicyWord = false
 names_store (Number least most) = false
 
 -- a key that is required, and isn't there

@@ -1,5 +1,5 @@
--- What the pairs of a text set. A key that isn't there counts as its row in the table says, and so does a kind, a layout or
--- a number that isn't good: such a text is refused, but until then other keys are tested beside it.
+-- What the pairs of a text set. A key that isn't there counts as its row in the table says, and so does a kind, a layout, a
+-- policy or a number that isn't good: such a text is refused, but until then other keys are tested beside it.
 use Rattle.std.specs.Prelude.{ℕ, Bool, true, false, List, [], ◌∷◌, fold, find, map, Option, Some, None, unwrap_or, codes}
 use Rattle.std.specs.Option.{option_and_then, option_map}
 use Rattle.std.specs.Map.{lookup}
@@ -20,14 +20,14 @@ use Rattle.repo_config.specs.declared.form.Word.TheVariants as word
 use Rattle.repo_config.specs.declared.form.Kinds.{Kinds}
 use Rattle.repo_config.specs.declared.form.Kinds.TheVariants.{Every, Only}
 use Rattle.repo_config.specs.declared.form.Rule.{Rule}
-use Rattle.repo_config.specs.declared.form.Rule.TheVariants.{Names, KindName, LayoutName, StoreOf, Number}
+use Rattle.repo_config.specs.declared.form.Rule.TheVariants.{Names, KindName, LayoutName, StoreOf, PolicyWord, Number}
 use Rattle.repo_config.specs.declared.form.Absent.{Absent}
-use Rattle.repo_config.specs.declared.form.Absent.TheVariants.{Empty, IsKind, IsLayout, IsNumber, Required}
+use Rattle.repo_config.specs.declared.form.Absent.TheVariants.{Empty, IsKind, IsLayout, IsPolicy, IsNumber, Required}
 use Rattle.repo_config.specs.declared.form.PartKind.{PartKind}
 use Rattle.repo_config.specs.declared.form.PartKind.TheVariants.{FileStore, HostedRepo}
 use Rattle.repo_config.specs.Keys.{key_text}
 use Rattle.repo_config.specs.Lists.{names_in, has_name}
-use Rattle.repo_config.specs.Values.{kind_said, layout_said, number_said}
+use Rattle.repo_config.specs.Values.{kind_said, layout_said, policy_said, number_said}
 use Rattle.repo_config.specs.Table.{kind_row, journal_row}
 
 -- the text at a key, which is empty where the key isn't there
@@ -43,6 +43,7 @@ abbrev pub absent_kind : Absent → PartKind
 absent_kind Empty = FileStore
 absent_kind (IsKind kind) = kind
 absent_kind (IsLayout layout) = FileStore
+absent_kind (IsPolicy policy) = FileStore
 absent_kind (IsNumber n) = FileStore
 absent_kind Required = FileStore
 
@@ -50,6 +51,7 @@ abbrev pub absent_number : Absent → ℕ
 absent_number Empty = 0
 absent_number (IsKind kind) = 0
 absent_number (IsLayout layout) = 0
+absent_number (IsPolicy policy) = 0
 absent_number (IsNumber n) = n
 absent_number Required = 0
 
@@ -58,6 +60,7 @@ number_by (Names of) value = None
 number_by KindName value = None
 number_by LayoutName value = None
 number_by StoreOf value = None
+number_by PolicyWord value = None
 number_by (Number least most) value = number_said least most value
 
 -- the declared stores, or repositories
@@ -96,7 +99,7 @@ abbrev pub repo_kind : PartKind → RepoKind
 repo_kind FileStore = Hosted
 repo_kind HostedRepo = Hosted
 
--- A repository. `max_age` and `not_found` are in minutes, and `cleanup` names cleanup policies. No key sets the last four
+-- A repository. `max_age` and `not_found` are in minutes, and `cleanup` names cleanup policies. No key sets the last three
 -- fields yet, so they have what counts where no key does.
 pub record Repository : Type 0 where
   pub kind : RepoKind
@@ -111,11 +114,15 @@ abbrev pub store_named : Entries → List ℕ → Option (List ℕ)
 store_named pairs name =
     find (λ store. same_name store (text_at pairs (key_text OfRepo name word.Store))) (declared OfStore pairs)
 
+-- what a repository lets be written
+abbrev pub policy_of : Entries → List ℕ → Policy
+policy_of pairs name = said policy_said pairs (key_text OfRepo name word.Policy) Redeploy
+
 abbrev pub repository : Entries → List ℕ → Repository
 repository pairs name = record {
   kind = repo_kind (kind_of OfRepo pairs name);
   store = store_named pairs name;
-  policy = Redeploy;
+  policy = policy_of pairs name;
   max_age = Some 1440;
   not_found = 1440;
   cleanup = [];

@@ -2,6 +2,7 @@
 -- value, and what counts where the key isn't there.
 use Rattle.std.specs.Prelude.{ℕ, Bool, List, [], ◌∷◌, is_some, true, false}
 use Rattle.nx_base.specs.declared.layout.Layout.TheVariants as layout
+use Rattle.nx_base.specs.declared.policy.Policy.TheVariants as policy
 use Rattle.repo_config.specs.declared.form.Form.{Form}
 use Rattle.repo_config.specs.declared.form.Subject.{Subject}
 use Rattle.repo_config.specs.declared.form.Subject.TheVariants.{OfAll, OfStore, OfRepo}
@@ -10,12 +11,12 @@ use Rattle.repo_config.specs.declared.form.Word.TheVariants as word
 use Rattle.repo_config.specs.declared.form.Kinds.{Kinds}
 use Rattle.repo_config.specs.declared.form.Kinds.TheVariants.{Every, Only}
 use Rattle.repo_config.specs.declared.form.Rule.{Rule}
-use Rattle.repo_config.specs.declared.form.Rule.TheVariants.{Names, KindName, LayoutName, StoreOf, Number}
+use Rattle.repo_config.specs.declared.form.Rule.TheVariants.{Names, KindName, LayoutName, StoreOf, PolicyWord, Number}
 use Rattle.repo_config.specs.declared.form.Absent.{Absent}
-use Rattle.repo_config.specs.declared.form.Absent.TheVariants.{Empty, IsKind, IsLayout, IsNumber, Required}
+use Rattle.repo_config.specs.declared.form.Absent.TheVariants.{Empty, IsKind, IsLayout, IsPolicy, IsNumber, Required}
 use Rattle.repo_config.specs.declared.form.PartKind.TheVariants.{FileStore, HostedRepo}
 use Rattle.repo_config.specs.Lists.{is_list, names_in, has_double}
-use Rattle.repo_config.specs.Values.{kind_said, layout_said, number_said}
+use Rattle.repo_config.specs.Values.{kind_said, layout_said, policy_said, number_said}
 
 abbrev pub row : Word → Kinds → Rule → Absent → Form
 row word kinds rule absent = record { word = word; kinds = kinds; rule = rule; absent = absent }
@@ -35,6 +36,9 @@ repo_kind_row = row word.Kind Every KindName (IsKind HostedRepo)
 abbrev pub repo_store_row : Form
 repo_store_row = row word.Store Every StoreOf Required
 
+abbrev pub repo_policy_row : Form
+repo_policy_row = row word.Policy (Only HostedRepo) PolicyWord (IsPolicy policy.Redeploy)
+
 abbrev pub rows : Subject → List Form
 rows OfAll =
     row word.Stores Every (Names OfStore) Empty
@@ -42,7 +46,7 @@ rows OfAll =
     ∷ journal_row
     ∷ []
 rows OfStore = store_kind_row ∷ store_layout_row ∷ []
-rows OfRepo = repo_kind_row ∷ repo_store_row ∷ []
+rows OfRepo = repo_kind_row ∷ repo_store_row ∷ repo_policy_row ∷ []
 
 -- the row of the kind
 abbrev pub kind_row : Subject → Form
@@ -56,6 +60,7 @@ is_good subject (Names of) value = is_list of value
 is_good subject KindName value = is_some (kind_said subject value)
 is_good subject LayoutName value = is_some (layout_said value)
 is_good subject StoreOf value = true
+is_good subject PolicyWord value = is_some (policy_said value)
 is_good subject (Number least most) value = is_some (number_said least most value)
 
 -- a name stands twice in the list
@@ -64,4 +69,5 @@ repeats (Names of) value = has_double (names_in value)
 repeats KindName value = false
 repeats LayoutName value = false
 repeats StoreOf value = false
+repeats PolicyWord value = false
 repeats (Number least most) value = false

@@ -3,6 +3,8 @@ use Rattle.std.specs.Prelude.{ℕ, Bool, ◌&&◌, nat_le, List, Option, Some, N
 use Rattle.std.specs.Str.Parse.{digits_value}
 use Rattle.nx_base.specs.declared.layout.Layout.{Layout}
 use Rattle.nx_base.specs.declared.layout.Layout.TheVariants.{Volume}
+use Rattle.nx_base.specs.declared.policy.Policy.{Policy}
+use Rattle.nx_base.specs.declared.policy.Policy.TheVariants.{Redeploy, NoRedeploy, ReadOnly}
 use Rattle.nx_base.specs.Texts.{same_name}
 use Rattle.repo_config.specs.declared.form.Subject.{Subject}
 use Rattle.repo_config.specs.declared.form.Subject.TheVariants.{OfAll, OfStore, OfRepo}
@@ -17,6 +19,14 @@ kind_said OfRepo value = if same_name value (codes "hosted") then Some HostedRep
 
 abbrev pub layout_said : List ℕ → Option Layout
 layout_said value = if same_name value (codes "volume") then Some Volume else None
+
+-- what a hosted repository lets be written
+abbrev pub policy_said : List ℕ → Option Policy
+policy_said value =
+    if same_name value (codes "redeploy") then Some Redeploy
+    else if same_name value (codes "no-redeploy") then Some NoRedeploy
+    else if same_name value (codes "read-only") then Some ReadOnly
+    else None
 
 -- digits alone, and no zero before other digits: the value is what is written for the number that it is read as
 abbrev pub is_decimal : List ℕ → Bool

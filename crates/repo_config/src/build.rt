@@ -13,10 +13,10 @@ use crate::form::{PartKind, Subject, Word};
 use crate::group::Group;
 use crate::key::{is_same, key_text};
 use crate::repo::Repo;
-use crate::settings::{declared, journal_of, kind_of, layout_of, text_at};
+use crate::settings::{declared, journal_of, kind_of, layout_of, policy_of, text_at};
 use crate::store::Store;
 use java_props::Pairs;
-use nx_base::{Fill, Member, NameErr, NoMemory, Policy, RepoKind, RepoName, StoreName};
+use nx_base::{Fill, Member, NameErr, NoMemory, RepoKind, RepoName, StoreName};
 use std::alloc::Global;
 use std::collections::BTreeMap;
 
@@ -162,10 +162,13 @@ fn repo(
     let Ok(key) = key_text(alloc, Subject::OfRepo, name, Word::Store) else {
         return Err(NoMemory);
     };
+    let Ok(policy) = policy_of(alloc, pairs, name) else {
+        return Err(NoMemory);
+    };
     Ok(Repo {
         kind: repo_kind(kind),
         store: find_store(alloc, stores, text_at(pairs, key.as_str()))?,
-        policy: Policy::Redeploy,
+        policy,
         max_age: Some(1440),
         not_found: 1440,
         cleanup: Vec::new(alloc),

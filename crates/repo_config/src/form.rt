@@ -4,7 +4,7 @@ ghost use Rattle.std.specs.Prelude.{◌≡◌, codes};
 ghost use Rattle.repo_config.specs.Words.{text};
 ghost use Rattle.repo_config.specs.Table.{rows};
 
-use nx_base::Layout;
+use nx_base::{Layout, Policy};
 
 /// What a key is a key of.
 #[derive(Clone, Copy)]
@@ -26,6 +26,7 @@ pub enum Word {
     Kind,
     Layout,
     Store,
+    Policy,
 }
 
 /// What a store or a repository is.
@@ -53,6 +54,8 @@ pub enum Rule {
     LayoutName,
     /// A declared store.
     StoreOf,
+    /// The word of a write policy.
+    PolicyWord,
     /// A number in decimal digits, without leading zeros.
     Number { least: u64, most: u64 },
 }
@@ -63,6 +66,7 @@ pub enum Absent {
     Empty,
     IsKind(PartKind),
     IsLayout(Layout),
+    IsPolicy(Policy),
     IsNumber(u64),
     /// It has to be there.
     Required,
@@ -88,6 +92,7 @@ impl Word {
             Word::Kind => "kind",
             Word::Layout => "layout",
             Word::Store => "store",
+            Word::Policy => "policy",
         }
     }
 }

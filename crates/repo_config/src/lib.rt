@@ -14,6 +14,7 @@
 //! | `store.<name>.layout` | `volume` | `volume` |
 //! | `repo.<name>.kind` | `hosted` | `hosted` |
 //! | `repo.<name>.store` | a declared store | refused |
+//! | `repo.<name>.policy` | `redeploy`, `no-redeploy`, `read-only` | `redeploy` |
 //!
 //! What is promised: [`Config::read`] gives exactly the configuration of its text
 //! (`specs/Settings.antt`), or exactly the first refusal (`specs/Refusals.antt`): of the text as a

@@ -1,13 +1,14 @@
 use nx_base::{Policy, PolicyName, RepoKind, StoreName};
 use std::marker::Model;
 
-/// A repository. No key sets the policy, the two times and the cleanup yet: they are what counts
-/// where no key is there.
+/// A repository. No key sets the two times and the cleanup yet: they are what counts where no key
+/// is there.
 #[derive(Drop)]
 pub struct Repo {
     pub kind: RepoKind,
     /// The store or the group of stores that it writes to.
     pub store: Option<StoreName>,
+    /// What it lets be written.
     pub policy: Policy,
     /// For how long a fetched content is fresh, in minutes; `None` is for ever.
     pub max_age: Option<u64>,

@@ -1,16 +1,16 @@
 //! What the pairs of a text set.
 ghost use Rattle.std.specs.Prelude.{◌≡◌, map, IfOk};
 ghost use Rattle.repo_config.specs.Lists.{names_in};
-ghost use Rattle.repo_config.specs.Settings.{text_at, absent_kind, absent_number, number_by, declared, kind_of, same_kind, has_key, journal_of, layout_of};
+ghost use Rattle.repo_config.specs.Settings.{text_at, absent_kind, absent_number, number_by, declared, kind_of, same_kind, has_key, journal_of, layout_of, policy_of};
 ghost use Rattle.repo_config.specs.Refusals.{has_row};
 
 use crate::form::{Absent, Form, Kinds, PartKind, Rule, Subject, Word};
 use crate::key::key_text;
 use crate::names::parts;
 use crate::table::{JOURNAL, kind_row};
-use crate::values::{kind_said, layout_said, number_said};
+use crate::values::{kind_said, layout_said, number_said, policy_said};
 use java_props::Pairs;
-use nx_base::Layout;
+use nx_base::{Layout, Policy};
 use std::alloc::{AllocError, Global};
 
 /// The text at a key, which is empty where the key isn't there.
@@ -57,9 +57,11 @@ fn absent_kind(absent: Absent) -> PartKind
 {
     match absent {
         Absent::IsKind(kind) => kind,
-        Absent::Empty | Absent::IsLayout(_) | Absent::IsNumber(_) | Absent::Required => {
-            PartKind::FileStore
-        }
+        Absent::Empty
+        | Absent::IsLayout(_)
+        | Absent::IsPolicy(_)
+        | Absent::IsNumber(_)
+        | Absent::Required => PartKind::FileStore,
     }
 }
 
@@ -68,7 +70,11 @@ fn absent_number(absent: Absent) -> u64
 {
     match absent {
         Absent::IsNumber(n) => n,
-        Absent::Empty | Absent::IsKind(_) | Absent::IsLayout(_) | Absent::Required => 0,
+        Absent::Empty
+        | Absent::IsKind(_)
+        | Absent::IsLayout(_)
+        | Absent::IsPolicy(_)
+        | Absent::Required => 0,
     }
 }
 
@@ -77,7 +83,8 @@ fn number_by(rule: Rule, value: &str) -> Option<u64>
 {
     match rule {
         Rule::Number { least, most } => number_said(least, most, value),
-        Rule::Names(_) | Rule::KindName | Rule::LayoutName | Rule::StoreOf => None,
+        Rule::Names(_) | Rule::KindName | Rule::LayoutName | Rule::StoreOf | Rule::PolicyWord =>
+            None,
     }
 }
 
@@ -148,5 +155,16 @@ pub(crate) fn layout_of(alloc: Global, pairs: &Pairs, name: &str) -> Result<Layo
     match pairs.get(key.as_str()) {
         Some(value) => Ok(layout_said(value).unwrap_or(Layout::Volume)),
         None => Ok(Layout::Volume),
+    }
+}
+
+/// What the repository of that name lets be written.
+pub(crate) fn policy_of(alloc: Global, pairs: &Pairs, name: &str) -> Result<Policy, AllocError>
+    ensures { IfOk result (λ policy. policy ≡ policy_of pairs.now name.now) }
+{
+    let key = key_text(alloc, Subject::OfRepo, name, Word::Policy)?;
+    match pairs.get(key.as_str()) {
+        Some(value) => Ok(policy_said(value).unwrap_or(Policy::Redeploy)),
+        None => Ok(Policy::Redeploy),
     }
 }

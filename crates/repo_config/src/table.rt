@@ -8,8 +8,8 @@ ghost use Rattle.repo_config.specs.Refusals.{row_with};
 use crate::form::{Absent, Form, Kinds, PartKind, Rule, Subject, Word};
 use crate::key::is_same;
 use crate::names::{Names, is_list};
-use crate::values::{kind_said, layout_said, number_said};
-use nx_base::{Layout, NoMemory};
+use crate::values::{kind_said, layout_said, number_said, policy_said};
+use nx_base::{Layout, NoMemory, Policy};
 use std::alloc::Global;
 
 const STORES: Form = Form {
@@ -64,11 +64,18 @@ const REPO_STORE: Form = Form {
     absent: Absent::Required,
 };
 
+const REPO_POLICY: Form = Form {
+    word: Word::Policy,
+    kinds: Kinds::Only(PartKind::HostedRepo),
+    rule: Rule::PolicyWord,
+    absent: Absent::IsPolicy(Policy::Redeploy),
+};
+
 static ROWS_OF_ALL: [Form; 3] = [STORES, REPOSITORIES, JOURNAL];
 
 static ROWS_OF_STORE: [Form; 2] = [STORE_KIND, STORE_LAYOUT];
 
-static ROWS_OF_REPO: [Form; 2] = [REPO_KIND, REPO_STORE];
+static ROWS_OF_REPO: [Form; 3] = [REPO_KIND, REPO_STORE, REPO_POLICY];
 
 pub(crate) fn rows(subject: Subject) -> &'static [Form]
     ensures { result.now ≡ rows subject }
@@ -115,6 +122,7 @@ pub(crate) fn is_good(
         Rule::KindName => Ok(kind_said(subject, value).is_some()),
         Rule::LayoutName => Ok(layout_said(value).is_some()),
         Rule::StoreOf => Ok(true),
+        Rule::PolicyWord => Ok(policy_said(value).is_some()),
         Rule::Number { least, most } => Ok(number_said(least, most, value).is_some()),
     }
 }
@@ -128,6 +136,10 @@ pub(crate) fn repeats(alloc: Global, rule: Rule, value: &str) -> Result<bool, No
             Ok(names) => Ok(names.has_double()),
             Err(_) => Err(NoMemory),
         },
-        Rule::KindName | Rule::LayoutName | Rule::StoreOf | Rule::Number { .. } => Ok(false),
+        Rule::KindName
+        | Rule::LayoutName
+        | Rule::StoreOf
+        | Rule::PolicyWord
+        | Rule::Number { .. } => Ok(false),
     }
 }

@@ -32,7 +32,7 @@ const NO_PROPERTIES: [&str; 3] = [
 ];
 
 /// Keys of no form, or of a later one.
-const KEYS: [&str; 36] = [
+const KEYS: [&str; 38] = [
     "stor=1 => UnknownKey stor",
     "Stores=a => UnknownKey Stores",
     "stores\\ =a => UnknownKey stores ",
@@ -40,6 +40,7 @@ const KEYS: [&str; 36] = [
     "store=a => UnknownKey store",
     "repo=a => UnknownKey repo",
     "kind=file => UnknownKey kind",
+    "policy=redeploy => UnknownKey policy",
     ".=1 => UnknownKey .",
     "..=1 => UnknownKey ..",
     ".kind=file => UnknownKey .kind",
@@ -61,7 +62,8 @@ const KEYS: [&str; 36] = [
     "stores=a\nstore.a.kind.=file => UnknownKey store.a.kind.",
     "stores=a\nstore.a.kind.x=file => UnknownKey store.a.kind.x",
     "stores=a\nstore.a.journal=5 => UnknownKey store.a.journal",
-    "stores=s\nrepositories=f\nrepo.f.store=s\nrepo.f.policy=redeploy => UnknownKey repo.f.policy",
+    "stores=a\nstore.a.policy=redeploy => UnknownKey store.a.policy",
+    "stores=s\nrepositories=f\nrepo.f.store=s\nrepo.f.Policy=redeploy => UnknownKey repo.f.Policy",
     "stores=s\nrepositories=f\nrepo.f.store=s\nrepo.f.remote=http://h => UnknownKey repo.f.remote",
     "stores=s\nrepositories=f\nrepo.f.store=s\nrepo.f.max-age=1 => UnknownKey repo.f.max-age",
     "stores=s\nrepositories=f\nrepo.f.store=s\nrepo.f.not-found=1 => UnknownKey repo.f.not-found",
@@ -72,12 +74,14 @@ const KEYS: [&str; 36] = [
 ];
 
 /// Undeclared names, and names with dots.
-const NAMES: [&str; 15] = [
+const NAMES: [&str; 17] = [
     "stores=a\nstore.b.kind=file => UnknownKey store.b.kind",
     "stores=a\nstore.b.kind=group => UnknownKey store.b.kind",
     "stores=a\nstore.A.kind=file => UnknownKey store.A.kind",
     "stores=a\nrepo.a.store=a => UnknownKey repo.a.store",
     "repositories=a\nstore.a.kind=file => UnknownKey store.a.kind",
+    "stores=s\nrepositories=f\nrepo.f.store=s\nrepo.g.policy=redeploy => UnknownKey repo.g.policy",
+    "stores=s\nrepositories=policy\nrepo.policy.store=s\nrepo.policy.policy=read-only => Ok s 100000",
     "stores=a.b\nstore.a.b.kind=file => Ok a.b 100000",
     "stores=a.b\nstore.a.kind=file => UnknownKey store.a.kind",
     "stores=a\nstore.a.b.kind=file => UnknownKey store.a.b.kind",
@@ -125,8 +129,8 @@ const LISTS: [&str; 20] = [
     "repositories=, => BadValue repositories",
 ];
 
-/// Bad kinds, layouts and numbers.
-const VALUES: [&str; 28] = [
+/// Bad kinds, layouts, policies and numbers.
+const VALUES: [&str; 33] = [
     "stores=a\nstore.a.kind=group => BadValue store.a.kind",
     "stores=a\nstore.a.kind=File => BadValue store.a.kind",
     "stores=a\nstore.a.kind= => BadValue store.a.kind",
@@ -137,6 +141,11 @@ const VALUES: [&str; 28] = [
     "stores=s\nrepositories=f\nrepo.f.store=s\nrepo.f.kind=proxy => BadValue repo.f.kind",
     "stores=s\nrepositories=f\nrepo.f.store=s\nrepo.f.kind=group => BadValue repo.f.kind",
     "stores=s\nrepositories=f\nrepo.f.store=s\nrepo.f.kind=file => BadValue repo.f.kind",
+    "stores=s\nrepositories=f\nrepo.f.store=s\nrepo.f.policy= => BadValue repo.f.policy",
+    "stores=s\nrepositories=f\nrepo.f.store=s\nrepo.f.policy=Redeploy => BadValue repo.f.policy",
+    "stores=s\nrepositories=f\nrepo.f.store=s\nrepo.f.policy=readonly => BadValue repo.f.policy",
+    "stores=s\nrepositories=f\nrepo.f.store=s\nrepo.f.policy=read-only  => BadValue repo.f.policy",
+    "stores=s\nrepositories=f\nrepo.f.store=s\nrepo.f.policy=redeploy,read-only => BadValue repo.f.policy",
     "journal=1 => Ok  1",
     "journal=1000000 => Ok  1000000",
     "journal= 7 => Ok  7",
@@ -158,7 +167,7 @@ const VALUES: [&str; 28] = [
 ];
 
 /// Keys are asked in byte order, whatever their order in the text.
-const ORDER: [&str; 7] = [
+const ORDER: [&str; 10] = [
     "stor=1\njournal=0 => BadValue journal",
     "stores=a,a\nrepositories=b,b => DuplicateName repositories",
     "zzz=1\nstores=a,a => DuplicateName stores",
@@ -166,6 +175,9 @@ const ORDER: [&str; 7] = [
     "stores=a\nstore.a.kind=group\nstore.a.layout=volume => BadValue store.a.kind",
     "stores=a\nstore.a.kind=group\nstore.a.fill=first => UnknownKey store.a.fill",
     "stores=a\nstore.a.layout=date\nstore.a.kind=group => BadValue store.a.kind",
+    "stores=s\nrepositories=f\nrepo.f.policy=no\nrepo.f.kind=proxy => BadValue repo.f.kind",
+    "repositories=f,f\nrepo.f.policy=no => BadValue repo.f.policy",
+    "stores=s\nrepositories=f\nrepo.f.store=t\nrepo.f.policy=no => BadValue repo.f.policy",
 ];
 
 /// A refused list declares its texts all the same.
@@ -378,5 +390,29 @@ fn holds_what_is_set(rt: HostRuntime) -> Result<(), Fail> {
     let other = StoreName::parse(alloc, b"other").ok().ok_or("a name")?;
     assert!(rt; config.group(&other).is_none() && config.layout(&other).is_none());
     assert!(rt; config.takes(repo, &store) && !config.takes(repo, &other));
+    Ok(())
+}
+
+#[test]
+fn holds_the_policy(rt: HostRuntime) -> Result<(), Fail> {
+    let alloc = rt.alloc();
+    let rows = [
+        ("", Policy::Redeploy),
+        ("repo.files.policy=redeploy\n", Policy::Redeploy),
+        ("repo.files.policy=no-redeploy\n", Policy::NoRedeploy),
+        ("repo.files.policy=read-only\n", Policy::ReadOnly),
+        (
+            "repo.files.policy=no\nrepo.files.policy=read-only\n",
+            Policy::ReadOnly,
+        ),
+    ];
+    let files = RepoName::parse(alloc, b"files").ok().ok_or("a name")?;
+    for (line, policy) in rows {
+        let mut text = Vec::from_slice(alloc, ONE)?;
+        text.extend_from_slice(line.as_bytes())?;
+        let config = Config::read(alloc, &text)?;
+        let repo = config.repo(&files).ok_or("a repository")?;
+        assert!(rt; repo.policy == policy, "at {line:?}");
+    }
     Ok(())
 }

@@ -1,11 +1,11 @@
 //! What single values say.
 ghost use Rattle.std.specs.Prelude.{◌≡◌, ◌≢◌, ◌<◌, ◌^◌, ℕ, MatchOption, IfSome, SomeIff, decimal};
 ghost use Rattle.std.specs.Str.Parse.{IsNumeral, digits_value};
-ghost use Rattle.repo_config.specs.Values.{kind_said, layout_said, is_between, number_said};
+ghost use Rattle.repo_config.specs.Values.{kind_said, layout_said, policy_said, is_between, number_said};
 
 use crate::form::{PartKind, Subject};
 use crate::key::is_same;
-use nx_base::Layout;
+use nx_base::{Layout, Policy};
 
 /// The kind of a store or of a repository.
 pub(crate) fn kind_said(subject: Subject, value: &str) -> Option<PartKind>
@@ -23,6 +23,21 @@ pub(crate) fn layout_said(value: &str) -> Option<Layout>
 {
     if is_same(value, "volume") {
         Some(Layout::Volume)
+    } else {
+        None
+    }
+}
+
+/// What a hosted repository lets be written.
+pub(crate) fn policy_said(value: &str) -> Option<Policy>
+    ensures { result ≡ policy_said value.now }
+{
+    if is_same(value, "redeploy") {
+        Some(Policy::Redeploy)
+    } else if is_same(value, "no-redeploy") {
+        Some(Policy::NoRedeploy)
+    } else if is_same(value, "read-only") {
+        Some(Policy::ReadOnly)
     } else {
         None
     }

@@ -1,16 +1,17 @@
 ghost use Rattle.std.specs.Prelude.{◌≡◌, OnOk, OnErr};
 ghost use Rattle.std.specs.FinMap as map;
 
+use deletion_queue::Queue;
 use nx_base::{BlobRef, Key, NoMemory};
 use repo_model::Deletion;
-use repo_model::plain::{BlobMap, Counts, KeyMap};
+use repo_model::plain::{Counts, KeyMap};
 use std::alloc::Global;
 
 /// What a core keeps itself, beside files and rows.
 #[derive(Drop)]
 pub struct Own {
-    /// The blobs that are marked as deleted.
-    pub trash: BlobMap<Deletion>,
+    /// The blobs that are marked as deleted, in the order of deletion.
+    pub trash: Queue,
     /// When the remote of a proxy last said that it has nothing of a key, in milliseconds.
     pub notes: KeyMap<u64>,
     /// The last stamp that was given.
@@ -25,7 +26,7 @@ impl Own {
         ensures { result ≡ record { trash = map.empty; notes = map.empty; last = 0; counts = map.empty } }
     {
         Own {
-            trash: BlobMap::new(alloc),
+            trash: Queue::new(alloc),
             notes: KeyMap::new(alloc),
             last: 0,
             counts: Counts::new(alloc),
@@ -45,6 +46,6 @@ impl Own {
     {
         let key = key.try_clone(alloc)?;
         let blob = blob.try_clone(alloc)?;
-        self.trash.insert(blob, Deletion { at, key })
+        self.trash.add(alloc, blob, Deletion { at, key })
     }
 }

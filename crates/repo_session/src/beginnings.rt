@@ -9,12 +9,11 @@ ghost use Rattle.repo_session.specs.Beginning.{BeginsPut, HasBeginCause};
 
 use crate::asking::begin_upload;
 use crate::open_upload::OpenUpload;
-use crate::refusals::{answer_of, stop_answer};
 use crate::responses::send_refusal;
 use crate::said::Said;
 use asset_keeper::Keeper;
 use disk_model::Disk;
-use http_front::Stop;
+use http_front::{Stop, answer_of, stop_answer};
 use http_heads::{Framing, Head, Method};
 use nx_base::NoMemory;
 use nx_io::Sink;

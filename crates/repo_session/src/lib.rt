@@ -29,7 +29,6 @@ mod heads;
 mod looks;
 mod open_upload;
 mod puts;
-mod refusals;
 mod responses;
 mod said;
 mod serving;

@@ -10,11 +10,10 @@ ghost use Rattle.repo_session.specs.Turned.{Turned, DownloadFails};
 
 use crate::asking::look;
 use crate::downloads::give;
-use crate::refusals::answer_of;
 use crate::responses::{send_found, send_refusal};
 use asset_keeper::Keeper;
 use disk_model::Disk;
-use http_front::Unsaid;
+use http_front::{Unsaid, answer_of};
 use http_heads::Head;
 use nx_base::Moment;
 use nx_io::Sink;

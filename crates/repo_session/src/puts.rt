@@ -15,13 +15,12 @@ ghost use Rattle.repo_session.specs.Turned.{Turned, DownloadFails};
 
 use crate::asking::{end_upload, put_upload};
 use crate::open_upload::OpenUpload;
-use crate::refusals::{answer_of, stop_answer};
 use crate::responses::{send_created, send_refusal};
 use crate::said::Said;
 use asset_keeper::Keeper;
 use blob_files::Upload;
 use disk_model::Disk;
-use http_front::{Stop, Unsaid};
+use http_front::{Stop, Unsaid, answer_of, stop_answer};
 use http_heads::BodyErr;
 use nx_base::Moment;
 use nx_io::Sink;

@@ -1,0 +1,4 @@
+pub mod Exact
+pub mod Lookups
+pub mod Moves
+pub mod Firsts

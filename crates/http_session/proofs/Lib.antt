@@ -1,0 +1,10 @@
+pub mod Marked
+pub mod Places
+pub mod Replied
+pub mod Buffers
+pub mod Contents
+pub mod Fronts
+pub mod Heads
+pub mod Parts
+pub mod Waits
+pub mod Responses

@@ -1,0 +1,4 @@
+pub mod Views
+pub mod Bodies
+pub mod Taken
+pub mod Steps

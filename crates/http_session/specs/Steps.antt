@@ -1,0 +1,69 @@
+-- What a step of a session says.
+use Rattle.std.specs.Prelude.{◌≡◌, ℕ, ◌<◌, ◌⊎◌, Bool, true, false, if◌then◌else◌, List, [], length, Some}
+use Rattle.http_front.specs.declared.end.End.TheVariants as ends
+use Rattle.http_heads.specs.declared.head_err.HeadErr.{HeadErr}
+use Rattle.session_history.specs.declared.ask.Ask.{Ask}
+use Rattle.session_history.specs.Marks.{Mark, refused, accepted, content, spoiled, replied, failed, broke}
+use Rattle.session_history.specs.Phases.{between, over}
+use Rattle.session_history.specs.Asking.{ask_at}
+use Rattle.session_history.specs.Histories.{IsHistory}
+use Rattle.http_session.specs.declared.step.Step.{Step}
+use Rattle.http_session.specs.declared.step.Step.TheVariants as steps
+use Rattle.http_session.specs.Views.{SessionView}
+use Rattle.http_session.specs.Taken.{Past, phase_of, with_mark, Took, reads, is_inside}
+
+-- a content that came whole, or is refused, is what was lent of it
+abbrev pub IsLent : Mark → List ℕ → Type 0
+IsLent (content bytes) came = bytes ≡ came
+IsLent (spoiled bytes why) came = bytes ≡ came
+IsLent (refused why bare) came = came ≡ []
+IsLent (accepted head) came = came ≡ []
+IsLent (replied r) came = came ≡ []
+IsLent (failed why) came = came ≡ []
+IsLent (broke why) came = Unit {0}
+
+-- what was asked is asked at the mark that came
+pub record Asks (fed : List ℕ) (past : Past) (new : SessionView) (ask : Ask) : Type 0 where
+  pub mark : Mark
+  pub asked : ask_at (phase_of past) mark ≡ Some ask
+  pub lent : IsLent mark past.came
+  pub took : Took new fed (with_mark mark past)
+
+-- Nothing is left to say or to take, and the fed bytes decide nothing more. Bytes come next.
+pub record IsStill (fed : List ℕ) (past : Past) (new : SessionView) : Type 0 where
+  pub took : Took new fed past
+  pub history : IsHistory fed past.marks past.came
+  pub reads : reads (phase_of past) ≡ true
+  pub quiet : new.out ≡ []
+  pub taken : new.lent ≡ []
+
+-- there is something to say: at a head that is refused now, or as before
+abbrev pub Says : List ℕ → Past → SessionView → Type 0
+Says fed past new =
+    (0 < length new.out)
+    × (Took new fed past ⊎ ((why : HeadErr) × (bare : Bool) × (phase_of past ≡ between) × Took new fed (with_mark (refused why bare) past)))
+
+-- what a step says of the session that was fed these bytes and had this past
+abbrev pub Gives : List ℕ → Past → SessionView → Step → Type 0
+Gives fed past new steps.Need = IsStill fed past new × (new.ended ≡ false) × (new.longer ≡ false)
+Gives fed past new (steps.Ask ask) = Asks fed past new ask
+Gives fed past new (steps.Body n) = Took new fed past × (is_inside (phase_of past) ≡ true) × (0 < n) × (n ≡ length new.lent)
+Gives fed past new steps.Say = Says fed past new
+-- the input ended between requests
+Gives fed past new (steps.Done ends.Clean) = IsStill fed past new × (new.ended ≡ true) × (phase_of past ≡ between) × (new.held ≡ [])
+-- the input ended inside a request
+Gives fed past new (steps.Done ends.Cut) =
+    IsStill fed past new × (new.ended ≡ true) × ((is_inside (phase_of past) ≡ true) ⊎ ((phase_of past ≡ between) × (0 < length new.held)))
+Gives fed past new (steps.Done ends.Closed) = Took new fed past × (phase_of past ≡ over) × (new.out ≡ [])
+Gives fed past new (steps.Done ends.InputTooLong) = IsStill fed past new × (new.longer ≡ true)
+Gives fed past new (steps.Done ends.NoMemory) = Took new fed past × (phase_of past ≡ between)
+Gives fed past new (steps.Done ends.ReadFault) = ⊥
+Gives fed past new (steps.Done ends.WriteFault) = ⊥
+Gives fed past new (steps.Done ends.DownloadFault) = ⊥
+
+-- where the bytes decide nothing: the input is too long, it hasn't ended, or it ended, inside a request or not
+abbrev pub wait_step : Bool → Bool → Bool → Step
+wait_step longer ended inside =
+    if longer then steps.Done ends.InputTooLong
+    else if ended then (if inside then steps.Done ends.Cut else steps.Done ends.Clean)
+    else steps.Need

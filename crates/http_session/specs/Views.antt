@@ -1,0 +1,63 @@
+-- What contracts see of a session.
+use Rattle.std.specs.Prelude.{ℕ, ◌+◌, ◌-◌, ◌^◌, min, Bool, true, false, ◌&&◌, ◌||◌, if◌then◌else◌, List, [], ◌∷◌, length}
+use Rattle.http_heads.specs.declared.head.Head.{Head}
+use Rattle.http_heads.specs.declared.method.Method.{Method}
+use Rattle.http_heads.specs.declared.method.Method.TheVariants as methods
+use Rattle.http_front.specs.Responses.{continue}
+use Rattle.http_session.specs.declared.place.Place.{Place}
+use Rattle.http_session.specs.declared.place.Place.TheVariants as places
+
+-- the bytes that are lent, those that are held behind them, where it stands, what there is still to say, how many bytes were fed,
+-- whether the input ended, and whether it is longer than a session reads
+pub record SessionView : Type 0 where
+  pub lent : List ℕ
+  pub held : List ℕ
+  pub place : Place
+  pub out : List ℕ
+  pub total : ℕ
+  pub ended : Bool
+  pub longer : Bool
+
+-- how many bytes it can be fed
+abbrev pub room_in : SessionView → ℕ
+room_in s = min (32768 - (length s.lent + length s.held)) (2 ^ 40 - s.total)
+
+-- whether it waits for an answer
+abbrev pub awaits_at : Place → Bool
+awaits_at places.Between = false
+awaits_at (places.Asked bare closes) = true
+awaits_at (places.Beginning framing expects closes) = true
+awaits_at (places.Inside body closes) = false
+awaits_at (places.Putting closes) = true
+awaits_at places.Over = false
+
+abbrev pub is_reading_at : Place → Bool
+is_reading_at places.Between = false
+is_reading_at (places.Asked bare closes) = false
+is_reading_at (places.Beginning framing expects closes) = false
+is_reading_at (places.Inside body closes) = true
+is_reading_at (places.Putting closes) = false
+is_reading_at places.Over = false
+
+abbrev pub is_nil : List ℕ → Bool
+is_nil [] = true
+is_nil (b ∷ bytes) = false
+
+-- whether it can be told of a failure: it waits for an answer, or reads a content and has nothing to say
+abbrev pub takes_failure : SessionView → Bool
+takes_failure s = awaits_at s.place || (is_reading_at s.place && is_nil s.out)
+
+-- where it stands behind a head, by its method
+abbrev pub place_of : Head → Method → Place
+place_of head methods.Get = places.Asked false head.closes
+place_of head methods.Head = places.Asked true head.closes
+place_of head methods.Put = places.Beginning head.framing head.expects head.closes
+place_of head methods.Delete = places.Asked false head.closes
+
+-- where it stands behind an answer
+abbrev pub place_behind : Bool → Place
+place_behind ends = if ends then places.Over else places.Between
+
+-- what is said to an upload that was begun
+abbrev pub continued : Bool → List ℕ
+continued expects = if expects then continue else []

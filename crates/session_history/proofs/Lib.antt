@@ -1,0 +1,3 @@
+mod Goes
+pub mod Same
+pub mod Made

@@ -1,0 +1,14 @@
+//! Laws of histories. None of these functions does anything: the contract is the law.
+ghost use Rattle.session_history.specs.Histories.{OneHistory};
+ghost use Rattle.session_history.specs.Requests.{RequestsOfHistory};
+
+/// The same bytes and the same answers make one history, however the bytes came in pieces: the same marks, but for the choice between
+/// the two causes of a head that is none, and of a content that isn't whole the same came.
+pub fn one_history()
+    ensures { OneHistory }
+{}
+
+/// A history in which no answer is due, and that no answer ended before its bytes do, has just the requests of its bytes.
+pub fn requests_of_history()
+    ensures { RequestsOfHistory }
+{}
