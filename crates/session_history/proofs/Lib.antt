@@ -1,3 +1,4 @@
 mod Goes
 pub mod Same
 pub mod Made
+pub mod First

@@ -16,7 +16,7 @@ use Rattle.http_front.proofs.Profile.{fits}
 use Rattle.session_history.specs.Marks.{Mark, refused, accepted, content, spoiled, replied, failed, broke}
 use Rattle.session_history.specs.Phases.{Phase, between, asked, beginning, inside, putting, over, is_begun, after}
 use Rattle.session_history.specs.Histories.{Rests, IsHistory}
-use Rattle.session_history.specs.Requests.{requests_in, TellsAll}
+use Rattle.session_history.specs.Requests.{alone, requests_in, TellsAll}
 use Rattle.session_history.proofs.Goes.{Goes, of_history, accepts, refuses, holds, stops, left}
 
 -- these are the requests of each stream in which the head stands in front of the bytes
@@ -24,7 +24,7 @@ abbrev OfHead : Head → List ℕ → List Item → Type 0
 OfHead head bytes items = (stream : List ℕ) → Accepts (drop_blank stream) head bytes → (ends_inside : Bool) × AreRequests stream items ends_inside
 
 -- they are those of the bytes behind a request with that head, if it doesn't close
-abbrev Behind : Head → List ℕ → List Item → Type 0
+abbrev pub Behind : Head → List ℕ → List Item → Type 0
 Behind head bytes items =
     (ends_inside : Bool) × (((head.closes ≡ false) × AreRequests bytes items ends_inside) ⊎ ((head.closes ≡ true) × (items ≡ []) × (ends_inside ≡ false)))
 
@@ -39,12 +39,12 @@ Makes over bytes items = items ≡ []
 
 -- ---- behind a head
 
-empty_holds : (framing : Framing) → is_empty framing ≡ true → (rest : List ℕ) → HoldsBody framing rest (readings.whole [] rest)
+pub empty_holds : (framing : Framing) → is_empty framing ≡ true → (rest : List ℕ) → HoldsBody framing rest (readings.whole [] rest)
 empty_holds framings.None e rest = (refl, refl)
 empty_holds (framings.Length n) e rest = (sym (eqb-true n 0 e), refl)
 empty_holds framings.Chunked e rest = cc
 
-no_content : (head : Head) → is_put head.method ≡ false → OnlyPutHasContent head → is_empty head.framing ≡ true
+pub no_content : (head : Head) → is_put head.method ≡ false → OnlyPutHasContent head → is_empty head.framing ≡ true
 no_content head e (inl f) = cc
 no_content head e (inr f) = f
 
@@ -71,7 +71,7 @@ replied_makes head true bytes rest items e same m = (false, inr (e, m, refl))
 replied_makes head false bytes rest items e same m = (m.0, inl (e, subst (λ (t : List ℕ). AreRequests t items m.0) (sym same) m.1))
 
 -- the phase behind the beginning of an upload, by whether it was begun, the request closes, and its content is empty
-abbrev begun_or : Head → Bool → Bool → Bool → Phase
+abbrev pub begun_or : Head → Bool → Bool → Bool → Phase
 begun_or head begun closes empty = if begun then inside head else if closes || not empty then over else between
 
 -- nothing comes behind a beginning
@@ -89,7 +89,7 @@ begun_goes head false true false bytes mark marks came x = absurd x.1.2
 begun_goes head false false false bytes mark marks came x = absurd x.1.2
 
 begun_makes : (head : Head) (begun closes empty : Bool) (bytes rest : List ℕ) (items : List Item) → head.closes ≡ closes → is_empty head.framing ≡ empty → bytes ≡ rest
-    → IsTrue (begun || empty) → Makes (begun_or head begun closes empty) rest items → OfHead head bytes ((if begun then [] else requests.whole head [] ∷ []) ++ items)
+    → IsTrue (begun || empty) → Makes (begun_or head begun closes empty) rest items → OfHead head bytes ((if begun then [] else alone head empty) ++ items)
 begun_makes head true closes empty bytes rest items c e same t m = λ stream a. m stream (subst (λ (b : List ℕ). Accepts (drop_blank stream) head b) same a)
 begun_makes head false true true bytes rest items c e same t m = empty_makes head bytes items e (replied_makes head true bytes rest items c same m)
 begun_makes head false false true bytes rest items c e same t m = empty_makes head bytes items e (replied_makes head false bytes rest items c same m)
@@ -97,7 +97,7 @@ begun_makes head false closes false bytes rest items c e same t m = absurd cc
 
 -- ---- an ended session
 
-none_over : (bytes : List ℕ) (marks : List Mark) (came : List ℕ) → Goes over bytes marks came → requests_in over marks came ≡ []
+pub none_over : (bytes : List ℕ) (marks : List Mark) (came : List ℕ) → Goes over bytes marks came → requests_in over marks came ≡ []
 none_over bytes [] came x = refl
 none_over bytes (mark ∷ marks) came x = absurd x.1.2
 

@@ -38,17 +38,17 @@ length_same n bytes (readings.whole c r) (readings.large d) x y = absurd y
 length_same n bytes (readings.cut c) (readings.bad d at) x y = absurd y
 length_same n bytes (readings.cut c) (readings.large d) x y = absurd y
 
-body_same : (framing : Framing) (bytes : List ℕ) (a b : Reading) → HoldsBody framing bytes a → HoldsBody framing bytes b → a ≡ b
+pub body_same : (framing : Framing) (bytes : List ℕ) (a b : Reading) → HoldsBody framing bytes a → HoldsBody framing bytes b → a ≡ b
 body_same framings.None bytes a b x y = length_same 0 bytes a b x y
 body_same (framings.Length n) bytes a b x y = length_same n bytes a b x y
 body_same framings.Chunked bytes a b x y = one_reading bytes a b x y
 
 -- a refused content is neither whole nor cut, and is refused so once
-whole_stop : (whole rest part : List ℕ) (why : BodyErr) → readings.whole whole rest ≡ stop_of part why → ⊥
+pub whole_stop : (whole rest part : List ℕ) (why : BodyErr) → readings.whole whole rest ≡ stop_of part why → ⊥
 whole_stop whole rest part (BadChunk at) e = cc
 whole_stop whole rest part BodyTooLarge e = cc
 
-cut_stop : (came part : List ℕ) (why : BodyErr) → readings.cut came ≡ stop_of part why → ⊥
+pub cut_stop : (came part : List ℕ) (why : BodyErr) → readings.cut came ≡ stop_of part why → ⊥
 cut_stop came part (BadChunk at) e = cc
 cut_stop came part BodyTooLarge e = cc
 
@@ -111,7 +111,7 @@ kind phase mark marks bytes rest x = absurd x.2
 
 -- ---- where nothing is read
 
-no_head : (bytes rest : List ℕ) (head : Head) (ends_inside : Bool) → AreRequests bytes [] ends_inside → Accepts (drop_blank bytes) head rest → ⊥
+pub no_head : (bytes rest : List ℕ) (head : Head) (ends_inside : Bool) → AreRequests bytes [] ends_inside → Accepts (drop_blank bytes) head rest → ⊥
 no_head bytes rest head true x y = accepts_open (drop_blank bytes) rest head y x
 no_head bytes rest head false x y = accepts_some (drop_blank bytes) rest head y x
 

@@ -1,18 +1,25 @@
 -- The requests of a history.
-use Rattle.std.specs.Prelude.{ℕ, IsTrue, Bool, ◌||◌, if◌then◌else◌, List, [], ◌∷◌, ◌++◌}
+use Rattle.std.specs.Prelude.{◌≡◌, ℕ, IsTrue, Bool, ◌||◌, if◌then◌else◌, List, [], ◌∷◌, ◌++◌, map}
+use Rattle.http_heads.specs.declared.head.Head.{Head}
 use Rattle.http_front.specs.Asking.{is_empty}
 use Rattle.http_requests.specs.Requests as requests
-use Rattle.http_requests.specs.Requests.{Item, AreRequests}
-use Rattle.session_history.specs.Marks.{Mark, refused, content, spoiled, replied}
+use Rattle.http_requests.specs.Requests.{Item, AreRequests, merged}
+use Rattle.session_history.specs.Marks.{Mark, refused, content, spoiled, replied, failed}
 use Rattle.session_history.specs.Phases.{Phase, between, asked, beginning, inside, putting, is_begun, after}
 use Rattle.session_history.specs.Histories.{IsHistory}
 
--- The request that ends at a mark: with its content, or, where none follows its head, with the answer to it. Of an upload whose
--- beginning is refused no content is read.
+-- the request of a head behind which no content is read, where it has none
+abbrev pub alone : Head → Bool → List Item
+alone head empty = if empty then requests.whole head [] ∷ [] else []
+
+-- The request that ends at a mark: with its content, or, where none follows its head, with the answer to it. Of an upload that isn't
+-- begun no content is read.
 abbrev pub ended_at : Phase → Mark → List Item
 ended_at between (refused why bare) = requests.refused why bare ∷ []
 ended_at (asked head) (replied r) = requests.whole head [] ∷ []
-ended_at (beginning head) (replied r) = if is_begun r then [] else requests.whole head [] ∷ []
+ended_at (asked head) (failed why) = requests.whole head [] ∷ []
+ended_at (beginning head) (replied r) = if is_begun r then [] else alone head (is_empty head.framing)
+ended_at (beginning head) (failed why) = alone head (is_empty head.framing)
 ended_at (inside head) (content bytes) = requests.whole head bytes ∷ []
 ended_at (inside head) (spoiled bytes why) = requests.stopped head bytes why ∷ []
 ended_at phase mark = []
@@ -39,6 +46,16 @@ TellsAll (asked head) (replied r ∷ []) = Unit {0}
 TellsAll (beginning head) (replied r ∷ []) = IsTrue (is_begun r || is_empty head.framing)
 TellsAll (putting head) (replied r ∷ []) = Unit {0}
 TellsAll phase (mark ∷ marks) = TellsAll (after phase mark) marks
+
+-- the first of the items are these, up to the choice between the two causes of a head that is none
+abbrev pub BeginsWith : List Item → List Item → Type 0
+BeginsWith items front = (more : List Item) × (map merged items ≡ map merged (front ++ more))
+
+-- the requests that bytes hold begin with those of each of their histories, whatever the answers
+abbrev pub FirstRequests : Type 0
+FirstRequests =
+    (bytes : List ℕ) (marks : List Mark) (came : List ℕ) → IsHistory bytes marks came
+    → (items : List Item) (ends_inside : Bool) → AreRequests bytes items ends_inside → BeginsWith items (requests_in between marks came)
 
 -- a history that tells of all requests has just the requests of the bytes
 abbrev pub RequestsOfHistory : Type 0

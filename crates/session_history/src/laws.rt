@@ -1,6 +1,6 @@
 //! Laws of histories. None of these functions does anything: the contract is the law.
 ghost use Rattle.session_history.specs.Histories.{OneHistory};
-ghost use Rattle.session_history.specs.Requests.{RequestsOfHistory};
+ghost use Rattle.session_history.specs.Requests.{FirstRequests, RequestsOfHistory};
 
 /// The same bytes and the same answers make one history, however the bytes came in pieces: the same marks, but for the choice between
 /// the two causes of a head that is none, and of a content that isn't whole the same came.
@@ -11,4 +11,10 @@ pub fn one_history()
 /// A history in which no answer is due, and that no answer ended before its bytes do, has just the requests of its bytes.
 pub fn requests_of_history()
     ensures { RequestsOfHistory }
+{}
+
+/// The requests that the bytes hold begin with those of their history, whatever was answered: also where an answer is due, where one
+/// failed, and where an upload isn't begun.
+pub fn first_requests()
+    ensures { FirstRequests }
 {}

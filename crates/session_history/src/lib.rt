@@ -10,6 +10,7 @@
 //!   what it says are functions of the bytes and the answers alone.
 //! - [`requests_of_history`]: where no answer is due, and none ended the session before the bytes do, the history's requests are those
 //!   that the bytes hold (`AreRequests`, http_requests).
+//! - [`first_requests`]: whatever was answered, the requests that the bytes hold begin with those of the history.
 //!
 //! Nothing here runs: the functions are laws.
 #![tactic(auto)]
@@ -18,4 +19,4 @@ mod ask;
 mod laws;
 
 pub use ask::Ask;
-pub use laws::{one_history, requests_of_history};
+pub use laws::{first_requests, one_history, requests_of_history};
