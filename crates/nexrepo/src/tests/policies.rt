@@ -10,6 +10,8 @@ use asset_keeper::MapKeeper;
 use disk_model::MemDisk;
 use nx_base::Policy;
 use repo_model::{Call, Refusal, Reply};
+use std::alloc::Global;
+use std::process::Abort;
 use std::test::Fail;
 
 static REDEPLOY: &str =
@@ -89,28 +91,38 @@ fn ends_denied(ran: &Ran<MemDisk, MapKeeper>, policy: Policy) -> bool {
     }
 }
 
+/// A session whose last upload is denied by the policy: so many entries, these contents, and nothing below `tmp`.
+fn check_denied(
+    rt: &impl Abort,
+    alloc: Global,
+    setup: &Setup,
+    input: &[&str],
+    want: (u64, Policy, &str),
+) -> Result<(), Fail> {
+    let (entries, policy, stays) = want;
+    let input = joined(alloc, input)?;
+    let mut ran = session(alloc, setup, &input)?.ran;
+    assert_eq!(rt; ran.journal.len(), entries);
+    assert!(rt; ends_denied(&ran, policy));
+    let bytes = contents_below(alloc, &mut ran.disk, "default", ".bytes")?;
+    assert_eq!(rt; bytes.as_slice(), stays.as_bytes());
+    let bytes = contents_below(alloc, &mut ran.disk, "tmp", "")?;
+    assert_eq!(rt; bytes.len(), 0);
+    Ok(())
+}
+
 #[test]
 fn a_denied_upload_is_one_entry(rt: HostRuntime) -> Result<(), Fail> {
     let alloc = rt.alloc();
-    let rows: [(&str, &[&str], u64, Policy, &str); 2] = [
-        (
-            NO_REDEPLOY,
-            &[PUT_ABC, PUT_XY],
-            3,
-            Policy::NoRedeploy,
-            "abc",
-        ),
-        (READ_ONLY, &[PUT_ABC], 1, Policy::ReadOnly, ""),
-    ];
-    for (config, input, entries, policy, stays) in rows {
-        let input = joined(alloc, input)?;
-        let mut ran = session(alloc, &Setup { config, ..usual() }, &input)?.ran;
-        assert_eq!(rt; ran.journal.len(), entries);
-        assert!(rt; ends_denied(&ran, policy));
-        let bytes = contents_below(alloc, &mut ran.disk, "default", ".bytes")?;
-        assert_eq!(rt; bytes.as_slice(), stays.as_bytes());
-        let bytes = contents_below(alloc, &mut ran.disk, "tmp", "")?;
-        assert_eq!(rt; bytes.len(), 0);
-    }
-    Ok(())
+    let setup = Setup {
+        config: NO_REDEPLOY,
+        ..usual()
+    };
+    let want = (3, Policy::NoRedeploy, "abc");
+    check_denied(&rt, alloc, &setup, &[PUT_ABC, PUT_XY], want)?;
+    let setup = Setup {
+        config: READ_ONLY,
+        ..usual()
+    };
+    check_denied(&rt, alloc, &setup, &[PUT_ABC], (1, Policy::ReadOnly, ""))
 }
