@@ -5,8 +5,8 @@ use Rattle.http_front.specs.Asking.{is_empty}
 use Rattle.http_requests.specs.Requests as requests
 use Rattle.http_requests.specs.Requests.{Item, AreRequests, merged}
 use Rattle.session_history.specs.Marks.{Mark, refused, content, spoiled, replied, failed}
-use Rattle.session_history.specs.Phases.{Phase, between, asked, beginning, inside, putting, is_begun, after}
-use Rattle.session_history.specs.Histories.{IsHistory}
+use Rattle.session_history.specs.Phases.{Phase, between, asked, beginning, inside, putting, is_begun, after, after_all}
+use Rattle.session_history.specs.Histories.{Spans, IsHistory}
 
 -- the request of a head behind which no content is read, where it has none
 abbrev pub alone : Head → Bool → List Item
@@ -62,3 +62,11 @@ abbrev pub RequestsOfHistory : Type 0
 RequestsOfHistory =
     (bytes : List ℕ) (marks : List Mark) (came : List ℕ) → IsHistory bytes marks came → TellsAll between marks
     → (ends_inside : Bool) × AreRequests bytes (requests_in between marks came) ends_inside
+
+-- Where the session stands between requests behind marks, their text and what follows it have the requests of the marks and then those
+-- of what follows.
+abbrev pub RequestsGoOn : Type 0
+RequestsGoOn =
+    (marks : List Mark) (text : List ℕ) → Spans between marks text → after_all between marks ≡ between
+    → (more : List ℕ) (items : List Item) (ends_inside : Bool) → AreRequests more items ends_inside
+    → AreRequests (text ++ more) (requests_in between marks [] ++ items) ends_inside

@@ -1,6 +1,6 @@
 //! Laws of histories. None of these functions does anything: the contract is the law.
 ghost use Rattle.session_history.specs.Histories.{OneHistory};
-ghost use Rattle.session_history.specs.Requests.{FirstRequests, RequestsOfHistory};
+ghost use Rattle.session_history.specs.Requests.{FirstRequests, RequestsGoOn, RequestsOfHistory};
 
 /// The same bytes and the same answers make one history, however the bytes came in pieces: the same marks, but for the choice between
 /// the two causes of a head that is none, and of a content that isn't whole the same came.
@@ -17,4 +17,9 @@ pub fn requests_of_history()
 /// failed, and where an upload isn't begun.
 pub fn first_requests()
     ensures { FirstRequests }
+{}
+
+/// Where a session stands between requests, the requests of the bytes are those of its marks, and then those of what follows.
+pub fn requests_go_on()
+    ensures { RequestsGoOn }
 {}

@@ -11,6 +11,8 @@
 //! - [`requests_of_history`]: where no answer is due, and none ended the session before the bytes do, the history's requests are those
 //!   that the bytes hold (`AreRequests`, http_requests).
 //! - [`first_requests`]: whatever was answered, the requests that the bytes hold begin with those of the history.
+//! - [`requests_go_on`]: where a session stands between requests, the requests that the bytes hold are those of the marks in front, and
+//!   then those that the bytes behind them hold.
 //!
 //! Nothing here runs: the functions are laws.
 #![tactic(auto)]
@@ -19,4 +21,4 @@ mod ask;
 mod laws;
 
 pub use ask::Ask;
-pub use laws::{first_requests, one_history, requests_of_history};
+pub use laws::{first_requests, one_history, requests_go_on, requests_of_history};
