@@ -1,6 +1,7 @@
 -- The bytes of a buffer after a step.
 use Rattle.std.proofs.Common.{◌≡◌, ℕ, ◌+◌, ◌-◌, ◌≤◌, List, ◌++◌, length, take, drop, sym, ap, ◌∙◌, arith}
-use Rattle.std.proofs.lemmas.List.{drop-drop, drop-take, length-take-le, length-drop, drop-append-le}
+use Rattle.std.proofs.lemmas.List.{drop-drop, drop-take, length-take-le, length-drop, drop-append-le, take-take}
+use Rattle.std.proofs.Math.Seq.{take-append-add}
 use Rattle.std.proofs.lemmas.Slice.{take-put_mid}
 use borrow.Rule.Slice.PartMut.{put_mid, same_len_mid}
 
@@ -29,3 +30,14 @@ pub same : (xs part : List ℕ) (k n : ℕ) → k + n ≤ length xs → length p
 same xs part k n le len =
     let z : k + n - k ≡ n = omega arith in
     same_len_mid k (k + n - k) xs part (len ∙ sym z ∙ sym (length-take-le (k + n - k) (drop k xs) (omega (arith, z, length-drop k xs))))
+
+-- the same, where only the first of them count
+pub fed_front : (xs part : List ℕ) (s e n m j : ℕ) → s ≤ e → e + n ≤ length xs → length part ≡ n → m ≤ n → j ≡ e + m - s → take j (drop s (put_mid e (e + n - e) xs part)) ≡ take (e - s) (drop s xs) ++ take m part
+fed_front xs part s e n m j order le len few is =
+    let all : List ℕ = drop s (put_mid e (e + n - e) xs part) in
+    let kept : List ℕ = take (e - s) (drop s xs) in
+    let long : length kept ≡ e - s = held_len xs s e order (omega arith) in
+    sym (take-take j (e + n - s) all (omega (arith, is)))
+    ∙ ap (take j) (fed xs part s e n order le len)
+    ∙ ap (λ (i : ℕ). take i (kept ++ part)) (omega (arith, is, long))
+    ∙ take-append-add kept part m

@@ -8,3 +8,6 @@ pub mod Heads
 pub mod Parts
 pub mod Waits
 pub mod Responses
+pub mod Sources
+pub mod Progress
+pub mod Fed

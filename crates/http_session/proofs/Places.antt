@@ -1,14 +1,15 @@
 -- The phase of a session, by its place.
-use Rattle.std.proofs.Common.{◌≡◌, ℕ, Bool, List, [], refl, subst}
+use Rattle.std.proofs.Common.{◌≡◌, ℕ, Bool, true, List, [], refl, subst}
 use Rattle.http_heads.specs.declared.head.Head.{Head}
 use Rattle.http_heads.specs.declared.framing.Framing.{Framing}
 use Rattle.http_front.specs.Asking.{is_head}
 use Rattle.http_front.specs.Skips.{IsBlank}
 use Rattle.session_history.specs.Phases.{Phase, between, asked, beginning, inside, putting, over}
 use Rattle.http_session.specs.declared.body.Body.{Body}
+use Rattle.http_session.specs.declared.place.Place.{Place}
 use Rattle.http_session.specs.declared.place.Place.TheVariants as places
 use Rattle.http_session.specs.Bodies.{IsReading}
-use Rattle.http_session.specs.Taken.{StandsAt}
+use Rattle.http_session.specs.Taken.{StandsAt, awaits}
 
 pub at_between : (p : Phase) (part came : List ℕ) → StandsAt p places.Between part came → (p ≡ between) × IsBlank part × (came ≡ [])
 at_between between part came x = (refl, x.1, x.2)
@@ -64,3 +65,12 @@ at_over (beginning head) part came x = let e = x.0 in absurd cc
 at_over (inside head) part came x = let e = x.1 in absurd cc
 at_over (putting head) part came x = let e = x.0 in absurd cc
 at_over over part came x = (refl, x.1, x.2)
+
+-- where an answer comes next no part of anything was taken
+pub nothing_taken : (p : Phase) (place : Place) (part came : List ℕ) → awaits p ≡ true → StandsAt p place part came → part ≡ []
+nothing_taken between place part came due x = absurd cc
+nothing_taken (asked head) place part came due x = x.1
+nothing_taken (beginning head) place part came due x = x.1
+nothing_taken (inside head) place part came due x = absurd cc
+nothing_taken (putting head) place part came due x = x.1
+nothing_taken over place part came due x = absurd cc

@@ -22,7 +22,7 @@ use Rattle.http_session.specs.Bodies.{IsReading}
 use Rattle.http_session.specs.Views.{SessionView, place_behind, continued}
 use Rattle.http_session.specs.Taken.{Past, phase_of, with_mark, StandsAt, Took, awaits}
 use Rattle.http_session.proofs.Marked.{no_parts, answer_took, advance}
-use Rattle.http_session.proofs.Places.{at_asked, at_beginning, at_inside, at_putting}
+use Rattle.http_session.proofs.Places.{at_asked, at_beginning, at_inside, at_putting, nothing_taken}
 
 -- where a session stands behind an answer, nothing being lent
 behind_stands : (ends : Bool) (bytes lent : List ℕ) → lent ≡ [] → StandsAt (behind (record { bytes = bytes; ends = ends })) (place_behind ends) lent lent
@@ -159,3 +159,8 @@ pub not_awaits : (p : Phase) (body : Body) (closes : Bool) (part came : List ℕ
 not_awaits p body closes part came x due =
     let e : false ≡ true = sym (ap awaits (at_inside p body closes part came x).1) ∙ due in
     absurd cc
+
+-- where an answer comes next nothing is lent, nor behind a change that lends nothing
+pub none_lent : (s new : SessionView) (fed : List ℕ) (past : Past) → new.lent ≡ s.lent → Took s fed past → awaits (phase_of past) ≡ true → new.lent ≡ []
+none_lent s new fed past same t due =
+    same ∙ (no_parts t.part s.lent (nothing_taken (phase_of past) s.place (t.part ++ s.lent) (past.came ++ s.lent) due t.stands)).1

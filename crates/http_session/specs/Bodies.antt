@@ -22,7 +22,9 @@ IsReading framing body part came = ⊥
 abbrev pub Reads : Framing → List ℕ → List ℕ → List ℕ → Body → BodyStep → Type 0
 Reads framing part came bytes new (steps.Framing n) = IsReading framing new (part ++ take n bytes) came
 Reads framing part came bytes new (steps.Content n) = IsReading framing new (part ++ take n bytes) (came ++ take n bytes)
-Reads framing part came bytes new steps.Need = IsReading framing new part came × HoldsBody framing (part ++ bytes) (readings.cut came)
+-- the bytes that wait are few
+Reads framing part came bytes new steps.Need =
+    IsReading framing new part came × HoldsBody framing (part ++ bytes) (readings.cut came) × (length bytes < 32768)
 Reads framing part came bytes new steps.Whole = (more : List ℕ) → HoldsBody framing (part ++ more) (readings.whole came more)
 Reads framing part came bytes new (steps.Bad why) = (more : List ℕ) → HoldsBody framing ((part ++ bytes) ++ more) (stop_of came why)
 

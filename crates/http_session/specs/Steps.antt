@@ -1,15 +1,17 @@
 -- What a step of a session says.
-use Rattle.std.specs.Prelude.{◌≡◌, ℕ, ◌<◌, ◌⊎◌, Bool, true, false, if◌then◌else◌, List, [], length, Some}
+use Rattle.std.specs.Prelude.{◌≡◌, ℕ, ◌<◌, ◌≤◌, ◌⊎◌, Bool, true, false, if◌then◌else◌, List, [], length, Some}
 use Rattle.http_front.specs.declared.end.End.TheVariants as ends
 use Rattle.http_heads.specs.declared.head_err.HeadErr.{HeadErr}
+use Rattle.http_requests.specs.Requests.{AreRequests}
 use Rattle.session_history.specs.declared.ask.Ask.{Ask}
+use Rattle.session_history.specs.declared.ask.Ask.TheVariants as asks
 use Rattle.session_history.specs.Marks.{Mark, refused, accepted, content, spoiled, replied, failed, broke}
 use Rattle.session_history.specs.Phases.{between, over}
 use Rattle.session_history.specs.Asking.{ask_at}
 use Rattle.session_history.specs.Histories.{IsHistory}
 use Rattle.http_session.specs.declared.step.Step.{Step}
 use Rattle.http_session.specs.declared.step.Step.TheVariants as steps
-use Rattle.http_session.specs.Views.{SessionView}
+use Rattle.http_session.specs.Views.{SessionView, waiting}
 use Rattle.http_session.specs.Taken.{Past, phase_of, with_mark, Took, reads, is_inside}
 
 -- a content that came whole, or is refused, is what was lent of it
@@ -45,21 +47,47 @@ Says fed past new =
 
 -- what a step says of the session that was fed these bytes and had this past
 abbrev pub Gives : List ℕ → Past → SessionView → Step → Type 0
-Gives fed past new steps.Need = IsStill fed past new × (new.ended ≡ false) × (new.longer ≡ false)
+-- there is room for more
+Gives fed past new steps.Need = IsStill fed past new × (new.ended ≡ false) × (new.longer ≡ false) × (waiting new < 32768)
 Gives fed past new (steps.Ask ask) = Asks fed past new ask
 Gives fed past new (steps.Body n) = Took new fed past × (is_inside (phase_of past) ≡ true) × (0 < n) × (n ≡ length new.lent)
 Gives fed past new steps.Say = Says fed past new
 -- the input ended between requests
 Gives fed past new (steps.Done ends.Clean) = IsStill fed past new × (new.ended ≡ true) × (phase_of past ≡ between) × (new.held ≡ [])
--- the input ended inside a request
+-- the input ended inside a content, or inside a head
 Gives fed past new (steps.Done ends.Cut) =
-    IsStill fed past new × (new.ended ≡ true) × ((is_inside (phase_of past) ≡ true) ⊎ ((phase_of past ≡ between) × (0 < length new.held)))
+    IsStill fed past new × (new.ended ≡ true)
+    × ((is_inside (phase_of past) ≡ true) ⊎ ((phase_of past ≡ between) × (0 < length new.held) × AreRequests new.held [] true))
 Gives fed past new (steps.Done ends.Closed) = Took new fed past × (phase_of past ≡ over) × (new.out ≡ [])
 Gives fed past new (steps.Done ends.InputTooLong) = IsStill fed past new × (new.longer ≡ true)
 Gives fed past new (steps.Done ends.NoMemory) = Took new fed past × (phase_of past ≡ between)
 Gives fed past new (steps.Done ends.ReadFault) = ⊥
 Gives fed past new (steps.Done ends.WriteFault) = ⊥
 Gives fed past new (steps.Done ends.DownloadFault) = ⊥
+
+-- whether this is the first call of a request
+abbrev pub is_first : Ask → Bool
+is_first (asks.Begin begin) = true
+is_first asks.Commit = false
+is_first asks.Abort = false
+is_first (asks.Look key look) = true
+is_first (asks.Delete key) = true
+
+-- whether a head is taken with the step
+abbrev pub takes_head : Step → Bool
+takes_head steps.Need = false
+takes_head (steps.Ask ask) = is_first ask
+takes_head (steps.Body n) = false
+takes_head steps.Say = false
+takes_head (steps.Done end) = false
+
+-- A step takes bytes of those that wait, and none come. With a head some are taken.
+pub record Progresses (old new : SessionView) (step : Step) : Type 0 where
+  pub total : new.total ≡ old.total
+  pub ended : new.ended ≡ old.ended
+  pub longer : new.longer ≡ old.longer
+  pub fewer : waiting new ≤ waiting old
+  pub head : takes_head step ≡ true → waiting new < waiting old
 
 -- where the bytes decide nothing: the input is too long, it hasn't ended, or it ended, inside a request or not
 abbrev pub wait_step : Bool → Bool → Bool → Step

@@ -1,5 +1,5 @@
 -- What contracts see of a session.
-use Rattle.std.specs.Prelude.{ℕ, ◌+◌, ◌-◌, ◌^◌, min, Bool, true, false, ◌&&◌, ◌||◌, if◌then◌else◌, List, [], ◌∷◌, length}
+use Rattle.std.specs.Prelude.{◌≡◌, ℕ, ◌+◌, ◌-◌, ◌^◌, min, Bool, true, false, ◌&&◌, ◌||◌, if◌then◌else◌, List, [], ◌∷◌, length}
 use Rattle.http_heads.specs.declared.head.Head.{Head}
 use Rattle.http_heads.specs.declared.method.Method.{Method}
 use Rattle.http_heads.specs.declared.method.Method.TheVariants as methods
@@ -17,6 +17,25 @@ pub record SessionView : Type 0 where
   pub total : ℕ
   pub ended : Bool
   pub longer : Bool
+
+-- how many bytes wait: those that are lent and those that are held
+abbrev pub waiting : SessionView → ℕ
+waiting s = length s.lent + length s.held
+
+-- what is lent and held is as it was, and what is known of the input: only where it stands and what there is to say may differ
+pub record KeepsInput (old new : SessionView) : Type 0 where
+  pub lent : new.lent ≡ old.lent
+  pub held : new.held ≡ old.held
+  pub total : new.total ≡ old.total
+  pub ended : new.ended ≡ old.ended
+  pub longer : new.longer ≡ old.longer
+
+-- as many bytes wait as did, lent or held, and what is known of the input is as it was
+pub record KeepsCount (old new : SessionView) : Type 0 where
+  pub waits : waiting new ≡ waiting old
+  pub total : new.total ≡ old.total
+  pub ended : new.ended ≡ old.ended
+  pub longer : new.longer ≡ old.longer
 
 -- how many bytes it can be fed
 abbrev pub room_in : SessionView → ℕ
@@ -61,3 +80,12 @@ place_behind ends = if ends then places.Over else places.Between
 -- what is said to an upload that was begun
 abbrev pub continued : Bool → List ℕ
 continued expects = if expects then continue else []
+
+-- whether it has ended
+abbrev pub is_over_at : Place → Bool
+is_over_at places.Between = false
+is_over_at (places.Asked bare closes) = false
+is_over_at (places.Beginning framing expects closes) = false
+is_over_at (places.Inside body closes) = false
+is_over_at (places.Putting closes) = false
+is_over_at places.Over = true

@@ -9,7 +9,7 @@ ghost use Rattle.session_history.specs.Saying.{why_upload};
 ghost use Rattle.http_session.specs.declared.body.Body.{Body};
 ghost use Rattle.http_session.specs.declared.place.Place.TheVariants as places;
 ghost use Rattle.http_session.specs.Bodies.{IsReading};
-ghost use Rattle.http_session.specs.Views.{awaits_at, takes_failure, place_behind, continued};
+ghost use Rattle.http_session.specs.Views.{awaits_at, takes_failure, place_behind, continued, KeepsInput, KeepsCount};
 ghost use Rattle.http_session.specs.Taken.{Past, Took, phase_of, with_mark, awaits, is_inside};
 
 use crate::body::Body;
@@ -71,6 +71,8 @@ impl Session {
     pub fn answer(&mut self, reply: &Reply)
         ensures answered { (fed : List ℕ) (past : Past) → Took self.old fed past → awaits (phase_of past) ≡ true → Took self.new fed (with_mark (replied reply.now) past) }
         ensures none_due { awaits_at self.old.place ≡ false → self.new ≡ self.old }
+        ensures kept { KeepsInput self.old self.new }
+        ensures none_lent { (fed : List ℕ) (past : Past) → Took self.old fed past → awaits (phase_of past) ≡ true → self.new.lent ≡ [] }
     {
         match self.place {
             Place::Asked { bare, closes } => self.say_reply(reply, bare, closes),
@@ -96,6 +98,7 @@ impl Session {
         ensures failed { (fed : List ℕ) (past : Past) → Took self.old fed past → awaits (phase_of past) ≡ true → Took self.new fed (with_mark (failed why) past) }
         ensures broke { (fed : List ℕ) (past : Past) → Took self.old fed past → is_inside (phase_of past) ≡ true → self.old.out ≡ [] → Took self.new fed (with_mark (broke why) past) }
         ensures ignored { takes_failure self.old ≡ false → self.new ≡ self.old }
+        ensures kept { KeepsCount self.old self.new }
     {
         match self.place {
             Place::Asked { bare, closes: _ } => self.fail(why, bare),

@@ -7,7 +7,7 @@ ghost use Rattle.session_history.specs.Asking.{ask_of};
 ghost use Rattle.session_history.specs.Phases.{between};
 ghost use Rattle.http_session.specs.declared.place.Place.TheVariants as places;
 ghost use Rattle.http_session.specs.Taken.{Past, Took, phase_of};
-ghost use Rattle.http_session.specs.Steps.{Gives};
+ghost use Rattle.http_session.specs.Steps.{Gives, Progresses};
 
 use crate::place::Place;
 use crate::session::Session;
@@ -47,7 +47,8 @@ impl Session {
         requires place { self.old.place ≡ places.Between }
         requires still { drop_blank self.old.held ≡ self.old.held }
         requires head { IsLook self.old.held (looks.Head head length) }
-        ensures { (fed : List ℕ) (past : Past) → Took self.old fed past → Gives fed past self.new result }
+        ensures gives { (fed : List ℕ) (past : Past) → Took self.old fed past → Gives fed past self.new result }
+        ensures progresses { Progresses self.old self.new result }
     {
         self.take(length);
         let place = Place::of(&head);
@@ -62,7 +63,8 @@ impl Session {
         requires place { self.old.place ≡ places.Between }
         requires still { drop_blank self.old.held ≡ self.old.held }
         requires head { IsLook self.old.held (looks.Refused refusal bare) }
-        ensures { (fed : List ℕ) (past : Past) → Took self.old fed past → Gives fed past self.new result }
+        ensures gives { (fed : List ℕ) (past : Past) → Took self.old fed past → Gives fed past self.new result }
+        ensures progresses { Progresses self.old self.new result }
     {
         let (status, word) = refusal.answer();
         self.end_with(status, &RefusalWords::new(word), bare);
@@ -76,7 +78,8 @@ impl Session {
         requires still { drop_blank self.old.held ≡ self.old.held }
         requires head { IsLook self.old.held looks.Open }
         requires quiet { self.old.out ≡ [] }
-        ensures { (fed : List ℕ) (past : Past) → Took self.old fed past → Gives fed past self.new result }
+        ensures gives { (fed : List ℕ) (past : Past) → Took self.old fed past → Gives fed past self.new result }
+        ensures progresses { Progresses self.old self.new result }
     {
         self.note_scanned();
         let inside = self.has_held();
@@ -88,7 +91,8 @@ impl Session {
         requires none { self.old.lent ≡ [] }
         requires place { self.old.place ≡ places.Between }
         requires quiet { self.old.out ≡ [] }
-        ensures { (fed : List ℕ) (past : Past) → Took self.old fed past → Gives fed past self.new result }
+        ensures gives { (fed : List ℕ) (past : Past) → Took self.old fed past → Gives fed past self.new result }
+        ensures progresses { Progresses self.old self.new result }
     {
         self.skip_blank();
         match look_at(self.alloc, self.held(), self.scanned()) {

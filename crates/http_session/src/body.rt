@@ -1,5 +1,6 @@
-ghost use Rattle.std.specs.Prelude.{◌≡◌, ℕ, List, [], length};
+ghost use Rattle.std.specs.Prelude.{◌≡◌, ℕ, List, [], length, not};
 ghost use Rattle.http_heads.specs.declared.framing.Framing.{Framing};
+ghost use Rattle.http_front.specs.Asking.{is_empty};
 ghost use Rattle.http_session.specs.declared.body.Body.TheVariants as bodies;
 ghost use Rattle.http_session.specs.Bodies.{IsReading, Reads, IsWithin};
 
@@ -40,6 +41,16 @@ impl Body {
             Framing::Chunked => Body::Chunked {
                 chunks: Chunks::new(),
             },
+        }
+    }
+
+    /// Whether content may come, where none has: whether the content isn't known to be empty.
+    pub fn expects(&self) -> bool
+        ensures { (framing : Framing) (part : List ℕ) → IsReading framing self.now part [] → result ≡ not (is_empty framing) }
+    {
+        match *self {
+            Body::Sized { left } => left != 0,
+            Body::Chunked { chunks: _ } => true,
         }
     }
 

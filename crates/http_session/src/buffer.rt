@@ -1,11 +1,15 @@
 ghost use Rattle.std.specs.Prelude.{◌≡◌, ◌≤◌, ◌-◌, ◌+◌, ◌⊎◌, take, drop, length};
 
 use nx_base::NoMemory;
+use nx_io::{Failed, Source};
 use std::alloc::Global;
 use std::marker::Model;
 
 /// How many bytes a session keeps.
 const SIZE: usize = 32_768;
+
+/// How much room a read has at least, where so much can be made.
+const READ_SIZE: usize = 16_384;
 
 /// The bytes that were fed and not taken yet, of which contracts see the list.
 #[derive(Drop)]
@@ -26,7 +30,9 @@ impl Model for Buffer {
 }
 
 impl Buffer {
-    ghost use Rattle.std.specs.Prelude.{◌≡◌, [], ◌≤◌, ◌-◌, ◌++◌, min, take, drop, length, IfOk};
+    ghost use Rattle.std.specs.Prelude.{◌≡◌, [], ◌<◌, ◌≤◌, ◌-◌, ◌++◌, min, take, drop, length, IfOk};
+    ghost use Rattle.nx_io.specs.Causes.{HasCause};
+    ghost use Rattle.http_session.specs.Fills.{ReadsBehind};
 
     /// An empty buffer.
     pub fn new(alloc: Global) -> Result<Buffer, NoMemory>
@@ -72,6 +78,27 @@ impl Buffer {
         self.start = start;
         self.end = end + count;
         count
+    }
+
+    /// Reads the next bytes of a source behind, so many at most, and answers how many. None are the end. What is kept is moved only
+    /// where little room is left behind it.
+    pub fn read_from<S: Source>(&mut self, input: &mut S, most: usize) -> Result<usize, Failed>
+        requires room { length self.old < 32768 }
+        requires some { 0 < most }
+        ensures reads { ReadsBehind (S.left input.old) (S.left input.new) (S.ended input.new) most self.old self.new result }
+        ensures cause { HasCause (S.faults input.old) (S.faults input.new) result }
+    {
+        let kept = self.end - self.start;
+        let start = make_room(&mut self.bytes, self.start, self.end, READ_SIZE);
+        let end = start + kept;
+        let room = (SIZE - end).min(most);
+        self.start = start;
+        self.end = end;
+        let Ok(count) = input.read(&mut self.bytes[end..end + room]) else {
+            return Err(Failed);
+        };
+        self.end += count;
+        Ok(count)
     }
 }
 

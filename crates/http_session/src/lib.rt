@@ -1,5 +1,6 @@
 //! One session of HTTP/1.1 as a machine: it is fed bytes, and says what to ask of the repository and what to write. It has no input
-//! and no output of its own, and neither reads nor waits.
+//! and no output of its own: bytes are handed to it ([`Session::feed`]), or a source, from which it then reads once
+//! ([`Session::feed_from`]).
 //!
 //! Whoever drives it calls [`Session::next`] and does what the [`Step`] says: feeds more bytes, makes the call that it asks for and
 //! hands the reply over by [`Session::answer`] (or [`Session::local`], where an upload failed), takes the content that it lends
@@ -18,13 +19,17 @@ mod answering;
 mod asking;
 mod body;
 mod buffer;
+mod filled;
+mod filling;
 mod laws;
 mod next;
 mod place;
 mod response;
 mod session;
+mod standing;
 mod step;
 
+pub use filled::Filled;
 pub use laws::two_sessions;
 pub use session::Session;
 pub use step::Step;

@@ -6,7 +6,7 @@ ghost use Rattle.http_session.specs.declared.step.Step.TheVariants as steps;
 ghost use Rattle.http_session.specs.declared.place.Place.TheVariants as places;
 ghost use Rattle.http_session.specs.Views.{awaits_at};
 ghost use Rattle.http_session.specs.Taken.{Past, Took};
-ghost use Rattle.http_session.specs.Steps.{Gives, wait_step};
+ghost use Rattle.http_session.specs.Steps.{Gives, Progresses, wait_step};
 
 use crate::body::{Body, BodyStep};
 use crate::place::Place;
@@ -72,7 +72,8 @@ impl Session {
         requires none { self.old.lent ≡ [] }
         requires quiet { self.old.out ≡ [] }
         requires place { self.old.place ≡ places.Inside body closes }
-        ensures { (fed : List ℕ) (past : Past) → Took self.old fed past → Gives fed past self.new result }
+        ensures gives { (fed : List ℕ) (past : Past) → Took self.old fed past → Gives fed past self.new result }
+        ensures progresses { Progresses self.old self.new result }
     {
         let mut body = body;
         'pieces: loop {
@@ -92,7 +93,8 @@ impl Session {
     /// What to do next. No answer may be due.
     pub fn next(&mut self) -> Step
         requires { awaits_at self.old.place ≡ false }
-        ensures { (fed : List ℕ) (past : Past) → Took self.old fed past → Gives fed past self.new result }
+        ensures gives { (fed : List ℕ) (past : Past) → Took self.old fed past → Gives fed past self.new result }
+        ensures progresses { Progresses self.old self.new result }
     {
         if self.out_len > 0 {
             return Step::Say;

@@ -1,9 +1,12 @@
-ghost use Rattle.std.specs.Prelude.{◌≡◌, ◌≤◌, ◌<◌, ◌+◌, ◌-◌, ◌^◌, ◌++◌, min, ℕ, List, [], true, false, length, take, drop, IfOk};
+ghost use Rattle.std.specs.Prelude.{◌≡◌, ◌≤◌, ◌<◌, ◌+◌, ◌-◌, ◌^◌, ◌++◌, min, not, ℕ, List, [], true, false, length, take, drop, IfOk};
 ghost use Rattle.http_heads.specs.Cut.{drop_blank, HasNoHead};
 ghost use Rattle.http_heads.specs.Response.{why, refused_with};
+ghost use Rattle.http_heads.specs.declared.head.Head.{Head};
+ghost use Rattle.http_front.specs.Asking.{is_empty};
+ghost use Rattle.session_history.specs.Phases.{inside};
 ghost use Rattle.http_session.specs.declared.place.Place.TheVariants as places;
 ghost use Rattle.http_session.specs.Views.{room_in, awaits_at};
-ghost use Rattle.http_session.specs.Taken.{Past, no_past, Took};
+ghost use Rattle.http_session.specs.Taken.{Past, no_past, Took, phase_of};
 
 use crate::buffer::Buffer;
 use crate::place::Place;
@@ -13,7 +16,7 @@ use std::alloc::Global;
 use std::marker::Model;
 
 /// How many bytes a session reads at most.
-const INPUT_LIMIT: u64 = 0x100_0000_0000;
+pub(crate) const INPUT_LIMIT: u64 = 0x100_0000_0000;
 
 /// A session.
 #[derive(Drop)]
@@ -28,7 +31,7 @@ pub struct Session {
     /// What there is to say, in the first bytes.
     pub(crate) out: [u8; 1024],
     pub(crate) out_len: usize,
-    total: u64,
+    pub(crate) total: u64,
     pub(crate) ended: bool,
     pub(crate) longer: bool,
 }
@@ -107,6 +110,16 @@ impl Session {
         match self.place {
             Place::Asked { .. } | Place::Beginning { .. } | Place::Putting { .. } => true,
             Place::Between | Place::Inside { .. } | Place::Over => false,
+        }
+    }
+
+    /// Whether content may come, where it reads one of which nothing was taken yet: whether it isn't known to be empty.
+    pub fn expects_content(&self) -> bool
+        ensures { (fed : List ℕ) (past : Past) (head : Head) → Took self.now fed past → phase_of past ≡ inside head → past.came ≡ [] → self.now.lent ≡ [] → result ≡ not (is_empty head.framing) }
+    {
+        match self.place {
+            Place::Inside { body, closes: _ } => body.expects(),
+            _ => false,
         }
     }
 

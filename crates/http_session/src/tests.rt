@@ -1,7 +1,10 @@
-//! Sessions over a pipeline that is fed in pieces.
+//! Sessions over a pipeline that comes in pieces.
+ghost use Rattle.std.specs.Prelude.{◌<◌};
+
 use crate::{Session, Step};
 use http_front::End;
 use nx_base::{Asset, BlobId, BlobRef, ContentType, StoreName};
+use nx_io::{MemSource, Source};
 use repo_model::{Refusal, Reply, UploadErr};
 use session_history::Ask;
 use std::alloc::Global;
@@ -91,24 +94,40 @@ fn end_name(end: End) -> &'static str {
     }
 }
 
-/// What a session asks, lends and says that is fed the bytes in pieces of that size.
-fn done(alloc: Global, bytes: &[u8], piece: usize) -> Result<Vec<u8>, Fail> {
+/// A source of the text, which gives at most so many bytes a call.
+fn source(alloc: Global, text: &str, piece: usize) -> Result<MemSource, Fail>
+    requires { 0 < piece }
+{
+    let bytes = Vec::from_slice(alloc, text.as_bytes())?;
+    Ok(MemSource::new(bytes, piece, Vec::new(alloc)))
+}
+
+/// Hands over the next bytes of a source: the session reads them itself, or is fed them.
+fn more(session: &mut Session, source: &mut MemSource, itself: bool) -> Result<(), Fail> {
+    if itself && session.has_room() {
+        session.feed_from(source)?;
+        return Ok(());
+    }
+    let mut piece = [0u8; 1024];
+    let count = source.read(&mut piece)?;
+    if count == 0 {
+        session.end_of_input();
+    } else {
+        session.feed(&piece[..count]);
+    }
+    Ok(())
+}
+
+/// What a session asks, lends and says that is handed the bytes of a source.
+fn done(alloc: Global, mut source: MemSource, itself: bool) -> Result<Vec<u8>, Fail> {
     let mut log = Vec::new(alloc);
     let mut session = Session::new(alloc)?;
-    let mut at = 0;
     for _ in 0..10_000_u32 {
         if session.awaits_answer() {
             break;
         }
         match session.next() {
-            Step::Need => {
-                let end = piece.saturating_add(at).min(bytes.len());
-                if at < end {
-                    at += session.feed(&bytes[at..end]);
-                } else {
-                    session.end_of_input();
-                }
-            }
+            Step::Need => more(&mut session, &mut source, itself)?,
             Step::Ask(ask) => {
                 let (reply, name) = reply(alloc, &ask)?;
                 log.extend_from_slice(name.as_bytes())?;
@@ -137,8 +156,10 @@ fn done(alloc: Global, bytes: &[u8], piece: usize) -> Result<Vec<u8>, Fail> {
 fn every_cut(rt: HostRuntime) -> Result<(), Fail> {
     let alloc = rt.alloc();
     for piece in 1..=PIPELINE.len() {
-        let log = done(alloc, PIPELINE.as_bytes(), piece)?;
-        assert!(rt; log.as_slice() == DONE.as_bytes(), "pieces of {piece}");
+        let fed = done(alloc, source(alloc, PIPELINE, piece)?, false)?;
+        assert!(rt; fed.as_slice() == DONE.as_bytes(), "pieces of {piece}");
+        let read = done(alloc, source(alloc, PIPELINE, piece)?, true)?;
+        assert!(rt; read.as_slice() == DONE.as_bytes(), "reads of {piece}");
     }
     Ok(())
 }
@@ -147,7 +168,7 @@ fn every_cut(rt: HostRuntime) -> Result<(), Fail> {
 fn rows(rt: HostRuntime) -> Result<(), Fail> {
     let alloc = rt.alloc();
     for (bytes, want) in &ROWS {
-        let log = done(alloc, bytes.as_bytes(), 100_000)?;
+        let log = done(alloc, source(alloc, bytes, 100_000)?, true)?;
         assert!(rt; log.as_slice() == want.as_bytes(), "at {bytes:?}");
     }
     Ok(())

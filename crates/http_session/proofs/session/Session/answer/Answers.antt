@@ -6,7 +6,7 @@ use Rattle.session_history.specs.Phases.{is_begun}
 use Rattle.http_session.specs.declared.place.Place.TheVariants as places
 use Rattle.http_session.specs.Views.{SessionView, awaits_at}
 use Rattle.http_session.specs.Taken.{Took, with_mark}
-use Rattle.http_session.proofs.Replied.{replied_asked, replied_putting, begun, begin_denied}
+use Rattle.http_session.proofs.Replied.{replied_asked, replied_putting, begun, begin_denied, none_lent}
 use Rattle.http_session.proofs.session.Session.answer.Goals as goal
 
 pub returns-in-Asked-clause-answered : goal.returns-in-Asked-clause-answered
@@ -51,3 +51,15 @@ returns-in_default-clause-answered c fed past took due =
     let quiet : s.out ≡ [] = sym (ap (λ (v : SessionView). v.out) c.self.view_is) ∙ ap (λ (n : ℕ). take n c.self.inside.out) (c.self.invariant.5 (ap awaits_at c.in-Beginning.is)) in
     subst (λ (v : SessionView). Took v fed (with_mark (replied c.args.reply.now) past)) (sym c.say_reply-in_default.ensures)
     (begin_denied s fed past c.in-Beginning.framing c.in-Beginning.expects c.in-Beginning.closes c.ends_unread-ends.result c.args.reply.now in_place quiet (no_begun c.args.reply.now c.in_default.not-Begun) c.ends_unread-ends.ensures took)
+
+pub returns-in-Asked-clause-none_lent : goal.returns-in-Asked-clause-none_lent
+returns-in-Asked-clause-none_lent c fed past took due = none_lent c.args.self.now c.say_reply.new.self fed past (ap (λ (v : SessionView). v.lent) c.say_reply.ensures) took due
+
+pub returns-in-Putting-clause-none_lent : goal.returns-in-Putting-clause-none_lent
+returns-in-Putting-clause-none_lent c fed past took due = none_lent c.args.self.now c.say_reply-in-Putting.new.self fed past (ap (λ (v : SessionView). v.lent) c.say_reply-in-Putting.ensures) took due
+
+pub returns-in_default-clause-none_lent : goal.returns-in_default-clause-none_lent
+returns-in_default-clause-none_lent c fed past took due = none_lent c.args.self.now c.say_reply-in_default.new.self fed past (ap (λ (v : SessionView). v.lent) c.say_reply-in_default.ensures) took due
+
+pub returns-in-Begun-clause-none_lent : goal.returns-in-Begun-clause-none_lent
+returns-in-Begun-clause-none_lent c fed past took due = none_lent c.args.self.now c.go_on.new.self fed past (ap (λ (v : SessionView). v.lent) c.go_on.ensures.2) took due

@@ -1,6 +1,7 @@
 use Rattle.std.proofs.Common.{◌≡◌, ℕ, List, [], length}
 use Rattle.http_session.specs.declared.place.Place.TheVariants as places
 use Rattle.http_session.specs.Taken.{Past, Took}
+use Rattle.http_session.proofs.Progress.{Shrinks}
 use Rattle.http_session.proofs.session.Session.next_content.Given as goal
 
 -- framing was taken, and the machine stands in the content
@@ -10,6 +11,7 @@ invariant-pieces l = record {
   none : l.self.lent ≡ [];
   quiet : l.self.out ≡ [];
   place : l.self.place ≡ places.Inside l.body l.closes;
+  shrinks : Shrinks l.initial.self l.self;
 }
 
 abbrev pub decreases-pieces : goal.decreases-pieces
