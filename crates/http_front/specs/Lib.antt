@@ -14,10 +14,7 @@ pub mod TurnRows
 pub mod Rows
 pub mod Buffers
 pub mod Skips
-pub mod Fills
 pub mod Looks
-pub mod Reading
 pub mod Replying
-pub mod Handing
 pub mod Chains
 pub mod Sessions

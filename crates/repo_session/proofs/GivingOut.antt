@@ -1,40 +1,17 @@
--- The bytes of a download on their way out, part by part.
-use Rattle.std.proofs.Common.{◌≡◌, ℕ, ◌+◌, ◌-◌, ◌<◌, ◌≤◌, min, Bool, List, [], ◌++◌, length, take, drop, Option, Some, Result, Ok, Err, refl, sym, ap, ◌∙◌, subst, arith, append_assoc}
-use Rattle.std.proofs.lemmas.List.{take-append-le, take-append-drop, length-take, length-append}
+-- The bytes of a download on their way out, piece by piece, behind the front of a response.
+use Rattle.std.proofs.Common.{◌≡◌, ℕ, ◌+◌, ◌-◌, ◌<◌, ◌≤◌, min, List, [], ◌++◌, length, take, drop, Option, Result, Ok, Err, refl, sym, ap, ◌∙◌, subst, arith, append_assoc}
+use Rattle.std.proofs.lemmas.List.{append-nil, take-append-le, take-append-drop, length-take}
 use Rattle.std.proofs.Math.Seq.{take-length, take-append-add}
 use Rattle.std.specs.Io.KnownBytes.{Appends}
 use Rattle.nx_io.specs.Causes.{Rose}
-use Rattle.nx_base.specs.declared.asset.Asset.{Asset}
 use Rattle.disk_model.specs.Disk.{TakesBack}
 use Rattle.blob_files.specs.declared.download.Download.{Download}
 use Rattle.blob_files.specs.Downloads.{to_come, IsWhole}
-use Rattle.http_heads.specs.Response.{head_of}
-use Rattle.http_front.specs.declared.replies.Unsaid.{Unsaid}
-use Rattle.http_front.specs.declared.replies.Unsaid.TheVariants.{WriteFault, DownloadFault}
-use Rattle.repo_session.specs.Giving.{IsGiven, IsFoundWith, HasFailed, HasGivenCause}
+use Rattle.http_front.specs.declared.unsaid.Unsaid.{Unsaid}
+use Rattle.http_front.specs.declared.unsaid.Unsaid.TheVariants.{WriteFault, DownloadFault}
+use Rattle.repo_session.specs.Giving.{HasRead, IsGivenBehind, HasFailed, HasGivenCause}
 use Rattle.repo_session.specs.Sending.{Sent, SentSome}
 use Rattle.repo_session.proofs.Sendings.{appends_none, appends_both, sent_front, sent_behind}
-
--- From one download to another some bytes were written: told, those between what was to come first and what is to come now. Counts of
--- faults never fall.
-pub record GivesOut {R : Type 0} (told : Type 0) (left : R → List ℕ) (faults : R → ℕ) (start now : Download R) (taken taken' : Option (List ℕ)) (writes writes' : ℕ) : Type 0 where
-  pub written : List ℕ
-  pub appends : Appends taken taken' written
-  pub rest : told → IsWhole left start → to_come left start ≡ written ++ to_come left now
-  pub whole : told → IsWhole left start → IsWhole left now
-  pub sink_later : writes ≤ writes'
-  pub reader_later : faults start.reader ≤ faults now.reader
-
-pub gives_first : {R : Type 0} (told : Type 0) (left : R → List ℕ) (faults : R → ℕ) (start : Download R) (taken : Option (List ℕ)) (writes : ℕ)
-    → GivesOut told left faults start start taken taken writes writes
-gives_first told left faults start taken writes = record {
-  written = [];
-  appends = appends_none taken;
-  rest = λ told whole. refl;
-  whole = λ told whole. whole;
-  sink_later = omega arith;
-  reader_later = omega arith;
-}
 
 -- of a part that was read, the bytes
 part_is : (n : ℕ) (bytes buf : List ℕ) → n ≤ length bytes → take n (take n bytes ++ drop n buf) ≡ take n bytes
@@ -44,19 +21,17 @@ part_is n bytes buf within =
     let fits : n ≤ length (take n bytes) = omega arith in
     take-append-le n (take n bytes) (drop n buf) fits ∙ ap (λ (k : ℕ). take k (take n bytes)) (sym is) ∙ take-length (take n bytes)
 
--- A part of a download was read: so many bytes.
-pub record HasRead {R : Type 0} (told : Type 0) (left : R → List ℕ) (faults : R → ℕ) (before after : Download R) (buf filled : List ℕ) (n : ℕ) : Type 0 where
+-- what the core's download says of a part that it read
+pub record Gave {R : Type 0} (told : Type 0) (left : R → List ℕ) (before after : Download R) (buf filled : List ℕ) (n : ℕ) : Type 0 where
   pub given : after.given ≡ before.given + n
   pub size : after.size ≡ before.size
   pub within : after.given ≤ after.size
   pub bytes : told → (filled ≡ take n (to_come left before) ++ drop n buf) × (to_come left after ≡ drop n (to_come left before))
-  pub whole : told → IsWhole left before → IsWhole left after
-  pub later : faults before.reader ≤ faults after.reader
 
 -- where the file has them all, the part is of what was to come
-pub part_read : {R : Type 0} (told : Type 0) (left : R → List ℕ) (faults : R → ℕ) (before after : Download R) (buf filled : List ℕ) (n : ℕ) → HasRead told left faults before after buf filled n
+pub part_read : {R : Type 0} (told : Type 0) (left : R → List ℕ) (before after : Download R) (buf filled : List ℕ) (n : ℕ) → Gave told left before after buf filled n
     → told → IsWhole left before → to_come left before ≡ take n filled ++ to_come left after
-part_read told left faults before after buf filled n read is whole =
+part_read told left before after buf filled n read is whole =
     let all : length (left before.reader) ≡ before.size - before.given = whole in
     let long : length (to_come left before) ≡ min (before.size - before.given) (length (left before.reader)) = length-take (before.size - before.given) (left before.reader) in
     let given = read.given in
@@ -67,60 +42,133 @@ part_read told left faults before after buf filled n read is whole =
     ∙ ap (λ (l : List ℕ). l ++ drop n (to_come left before)) (sym (ap (take n) (read.bytes is).0 ∙ part_is n (to_come left before) buf fits))
     ∙ ap (λ (l : List ℕ). take n filled ++ l) (sym (read.bytes is).1)
 
--- the part was written
-pub gives_more : {R : Type 0} (told : Type 0) (left : R → List ℕ) (faults : R → ℕ) (start before after : Download R) (taken taken' taken'' : Option (List ℕ)) (writes writes' writes'' : ℕ) (buf filled : List ℕ) (n : ℕ)
-    → GivesOut told left faults start before taken taken' writes writes' → HasRead told left faults before after buf filled n → Appends taken' taken'' (take n filled) → writes' ≤ writes''
-    → GivesOut told left faults start after taken taken'' writes writes''
-gives_more told left faults start before after taken taken' taken'' writes writes' writes'' buf filled n gives read sent later = record {
-  written = gives.written ++ take n filled;
-  appends = appends_both taken taken' taken'' gives.written (take n filled) gives.appends sent;
-  rest = λ is whole. gives.rest is whole ∙ ap (λ (l : List ℕ). gives.written ++ l) (part_read told left faults before after buf filled n read is (gives.whole is whole))
-      ∙ sym (append_assoc gives.written (take n filled) (to_come left after));
+-- what was read behind the first bytes of a piece
+pub behind_first : (piece filled rest : List ℕ) (at n : ℕ) → at ≤ length piece → n ≤ length filled → take (at + n) (take at piece ++ (filled ++ rest)) ≡ take at piece ++ take n filled
+behind_first piece filled rest at n within fits =
+    let long : length (take at piece) ≡ min at (length piece) = length-take at piece in
+    let is : length (take at piece) ≡ at = omega arith in
+    ap (λ (k : ℕ). take (k + n) (take at piece ++ (filled ++ rest))) (sym is) ∙ take-append-add (take at piece) (filled ++ rest) n
+    ∙ ap (λ (l : List ℕ). take at piece ++ l) (take-append-le n filled rest fits)
+
+-- a piece that begins with a front
+pub begins_with : (front copied rest : List ℕ) → copied ≡ front → take (length front) (copied ++ rest) ≡ front
+begins_with front copied rest is =
+    ap (λ (l : List ℕ). take (length front) (l ++ rest)) is ∙ take-append-le (length front) front rest (omega arith) ∙ take-length front
+
+-- From one download to another, behind the front of a response, some bytes were written and some wait: the front, and, told, those
+-- between what was to come first and what is to come now. Counts of faults never fall.
+pub record GivesOut {R : Type 0} (told : Type 0) (left : R → List ℕ) (faults : R → ℕ) (front : List ℕ) (start now : Download R) (waiting : List ℕ) (taken taken' : Option (List ℕ)) (writes writes' : ℕ) : Type 0 where
+  pub written : List ℕ
+  pub given : List ℕ
+  pub appends : Appends taken taken' written
+  pub parts : written ++ waiting ≡ front ++ given
+  pub rest : told → IsWhole left start → to_come left start ≡ given ++ to_come left now
+  pub whole : told → IsWhole left start → IsWhole left now
+  pub sink_later : writes ≤ writes'
+  pub reader_later : faults start.reader ≤ faults now.reader
+
+pub gives_first : {R : Type 0} (told : Type 0) (left : R → List ℕ) (faults : R → ℕ) (front : List ℕ) (start : Download R) (waiting : List ℕ) (taken : Option (List ℕ)) (writes : ℕ)
+    → waiting ≡ front → GivesOut told left faults front start start waiting taken taken writes writes
+gives_first told left faults front start waiting taken writes is = record {
+  written = [];
+  given = [];
+  appends = appends_none taken;
+  parts = is ∙ sym (append-nil front);
+  rest = λ told whole. refl;
+  whole = λ told whole. whole;
+  sink_later = omega arith;
+  reader_later = omega arith;
+}
+
+-- what waits joins what was written, and a part what was given
+joined : (front written waiting given part : List ℕ) → written ++ waiting ≡ front ++ given → written ++ (waiting ++ part) ≡ front ++ (given ++ part)
+joined front written waiting given part is = sym (append_assoc written waiting part) ∙ ap (λ (l : List ℕ). l ++ part) is ∙ append_assoc front given part
+
+-- another piece was read and written
+pub gives_more : {R : Type 0} (told : Type 0) (left : R → List ℕ) (faults : R → ℕ) (front : List ℕ) (start before after : Download R) (waiting piece : List ℕ) (taken taken' taken'' : Option (List ℕ)) (writes writes' writes'' at n : ℕ)
+    → GivesOut told left faults front start before waiting taken taken' writes writes' → HasRead told left faults before after waiting piece at n
+    → Appends taken' taken'' (take (at + n) piece) → writes' ≤ writes''
+    → GivesOut told left faults front start after [] taken taken'' writes writes''
+gives_more told left faults front start before after waiting piece taken taken' taken'' writes writes' writes'' at n gives read sent later = record {
+  written = gives.written ++ take (at + n) piece;
+  given = gives.given ++ read.part;
+  appends = appends_both taken taken' taken'' gives.written (take (at + n) piece) gives.appends sent;
+  parts = append-nil (gives.written ++ take (at + n) piece) ∙ ap (λ (l : List ℕ). gives.written ++ l) read.filled ∙ joined front gives.written waiting gives.given read.part gives.parts;
+  rest = λ is whole. gives.rest is whole ∙ ap (λ (l : List ℕ). gives.given ++ l) (read.rest is (gives.whole is whole))
+      ∙ sym (append_assoc gives.given read.part (to_come left after));
   whole = λ is whole. read.whole is (gives.whole is whole);
   sink_later = grind (arith, gives.sink_later, later);
   reader_later = grind (arith, gives.reader_later, read.later);
 }
 
--- no more is written than a front of a part
-pub gives_front : {R E : Type 0} (told : Type 0) (left : R → List ℕ) (faults : R → ℕ) (start before : Download R) (taken taken' taken'' : Option (List ℕ)) (writes writes' : ℕ) (part more : List ℕ) (count : ℕ) (why : E)
-    → GivesOut told left faults start before taken taken' writes writes' → (told → IsWhole left before → to_come left before ≡ part ++ more) → count ≤ length part → Appends taken' taken'' (take count part)
-    → SentSome (IsGiven told left start) taken taken'' (Err why)
-gives_front told left faults start before taken taken' taken'' writes writes' part more count why gives is within sent = (
-  gives.written ++ (part ++ more),
-  λ t whole. sym (gives.rest t whole ∙ ap (λ (l : List ℕ). gives.written ++ l) (is t (gives.whole t whole))),
+-- what waits was written, as far as it could be, and no more is given than such bytes behind it
+pub gives_rest : {R E : Type 0} (told : Type 0) (left : R → List ℕ) (faults : R → ℕ) (front : List ℕ) (start now : Download R) (waiting more all : List ℕ) (taken taken' taken'' : Option (List ℕ)) (writes writes' : ℕ) (result : Result (Unit {0}) E)
+    → GivesOut told left faults front start now waiting taken taken' writes writes' → (told → IsWhole left now → to_come left now ≡ more) → all ≡ waiting ++ more
+    → Sent taken' taken'' all result
+    → SentSome (IsGivenBehind told left front start) taken taken'' result
+gives_rest told left faults front start now waiting more all taken taken' taken'' writes writes' result gives ends is sent = (
+  gives.written ++ all,
   (
-    length gives.written + count,
-    simp length-append (omega arith),
-    subst (λ (l : List ℕ). Appends taken taken'' l) (sym front) (appends_both taken taken' taken'' gives.written (take count part) gives.appends sent),
+    gives.given ++ more,
+    λ t whole. sym (gives.rest t whole ∙ ap (λ (l : List ℕ). gives.given ++ l) (ends t (gives.whole t whole))),
+    ap (λ (l : List ℕ). gives.written ++ l) is ∙ joined front gives.written waiting gives.given more gives.parts,
   ),
+  sent_behind taken taken' taken'' gives.written all result gives.appends sent,
 )
+
+-- the download is at its end
+pub gives_all : {R E : Type 0} (told : Type 0) (left : R → List ℕ) (faults : R → ℕ) (front : List ℕ) (start before after : Download R) (waiting piece now : List ℕ) (taken taken' taken'' : Option (List ℕ)) (writes writes' at : ℕ) (result : Result (Unit {0}) E)
+    → GivesOut told left faults front start before waiting taken taken' writes writes' → HasRead told left faults before after waiting piece at 0 → after.given ≡ after.size → now ≡ waiting → Sent taken' taken'' now result
+    → SentSome (IsGivenBehind told left front start) taken taken'' result
+gives_all told left faults front start before after waiting piece now taken taken' taken'' writes writes' at result gives read ended is sent =
+    gives_rest told left faults front start before waiting [] now taken taken' taken'' writes writes' result gives
+    (λ t whole. read.rest t whole ∙ ap (λ (l : List ℕ). l ++ to_come left after) (read.none refl) ∙ nothing) (is ∙ sym (append-nil waiting)) sent
   where
-    front : take (length gives.written + count) (gives.written ++ (part ++ more)) ≡ gives.written ++ take count part
-    front = take-append-add gives.written (part ++ more) count ∙ ap (λ (l : List ℕ). gives.written ++ l) (take-append-le count part more within)
+    none : (n m : ℕ) (bytes : List ℕ) → n ≡ m → take (m - n) bytes ≡ []
+    none n m bytes e = let zero : m - n ≡ 0 = omega arith in ap (λ (k : ℕ). take k bytes) zero
 
--- nothing of the next part
-pub gives_so_far : {R E : Type 0} (told : Type 0) (left : R → List ℕ) (faults : R → ℕ) (start before : Download R) (taken taken' : Option (List ℕ)) (writes writes' : ℕ) (why : E)
-    → GivesOut told left faults start before taken taken' writes writes' → SentSome (IsGiven told left start) taken taken' (Err why)
-gives_so_far told left faults start before taken taken' writes writes' why gives =
-    gives_front told left faults start before taken taken' taken' writes writes' [] (to_come left before) 0 why gives (λ t whole. refl) (omega arith) (appends_none taken')
+    nothing : to_come left after ≡ []
+    nothing = none after.given after.size (left after.reader) ended
 
--- a front of the head of the response to a GET was written
-pub found_head : {R E : Type 0} (told : Type 0) (left : R → List ℕ) (asset : Asset) (closes : Bool) (download : Download R) (taken taken' : Option (List ℕ)) (why : E)
-    → Sent taken taken' (head_of 200 (Some asset.content_type) (Some asset.size) closes) (Err why) → SentSome (IsFoundWith told left asset closes download) taken taken' (Err why)
-found_head told left asset closes download taken taken' why sent = (
-  head_of 200 (Some asset.content_type) (Some asset.size) closes ++ to_come left download,
-  (to_come left download, λ told whole. refl, refl),
-  sent_front taken taken' (head_of 200 (Some asset.content_type) (Some asset.size) closes) (to_come left download) why sent,
+-- a piece was written in part alone
+pub gives_front : {R E : Type 0} (told : Type 0) (left : R → List ℕ) (faults : R → ℕ) (front : List ℕ) (start before after : Download R) (waiting piece : List ℕ) (taken taken' taken'' : Option (List ℕ)) (writes writes' at n : ℕ) (why : E)
+    → GivesOut told left faults front start before waiting taken taken' writes writes' → HasRead told left faults before after waiting piece at n
+    → Sent taken' taken'' (take (at + n) piece) (Err why)
+    → SentSome (IsGivenBehind told left front start) taken taken'' (Err why)
+gives_front told left faults front start before after waiting piece taken taken' taken'' writes writes' at n why gives read sent =
+    gives_rest told left faults front start before waiting (read.part ++ to_come left after) (take (at + n) piece ++ to_come left after) taken taken' taken'' writes writes' (Err why) gives read.rest
+    (ap (λ (l : List ℕ). l ++ to_come left after) read.filled ∙ append_assoc waiting read.part (to_come left after))
+    (sent_front taken' taken'' (take (at + n) piece) (to_come left after) why sent)
+
+-- the download failed, and what waits was written in part alone
+pub gives_so_far : {R E : Type 0} (told : Type 0) (left : R → List ℕ) (faults : R → ℕ) (front : List ℕ) (start before : Download R) (waiting now : List ℕ) (taken taken' taken'' : Option (List ℕ)) (writes writes' : ℕ) (why : E)
+    → GivesOut told left faults front start before waiting taken taken' writes writes' → now ≡ waiting → Sent taken' taken'' now (Err why)
+    → SentSome (IsGivenBehind told left front start) taken taken'' (Err why)
+gives_so_far told left faults front start before waiting now taken taken' taken'' writes writes' why gives is sent =
+    gives_rest told left faults front start before waiting (to_come left before) (now ++ to_come left before) taken taken' taken'' writes writes' (Err why) gives (λ t whole. refl)
+    (ap (λ (l : List ℕ). l ++ to_come left before) is) (sent_front taken' taken'' now (to_come left before) why sent)
+
+-- and as a whole
+pub all_sent : {E : Type 0} (taken taken' : Option (List ℕ)) (bytes : List ℕ) (why : E) → Appends taken taken' bytes → Sent taken taken' bytes (Err why)
+all_sent taken taken' bytes why sent = (length bytes, omega arith, subst (λ (l : List ℕ). Appends taken taken' l) (sym (take-length bytes)) sent)
+
+-- a front that is longer than a piece was written alone, in part
+pub alone_front : {R E : Type 0} (told : Type 0) (left : R → List ℕ) (front : List ℕ) (download : Download R) (taken taken' : Option (List ℕ)) (why : E)
+    → Sent taken taken' front (Err why) → SentSome (IsGivenBehind told left front download) taken taken' (Err why)
+alone_front told left front download taken taken' why sent = (
+  front ++ to_come left download,
+  (to_come left download, λ t whole. refl, refl),
+  sent_front taken taken' front (to_come left download) why sent,
 )
 
--- the head was, and of the content all or a front
-pub found_content : {R E : Type 0} (told : Type 0) (left : R → List ℕ) (asset : Asset) (closes : Bool) (download : Download R) (taken taken' taken'' : Option (List ℕ)) (result : Result (Unit {0}) E)
-    → Appends taken taken' (head_of 200 (Some asset.content_type) (Some asset.size) closes) → SentSome (IsGiven told left download) taken' taken'' result
-    → SentSome (IsFoundWith told left asset closes download) taken taken'' result
-found_content told left asset closes download taken taken' taken'' result head sent = (
-  head_of 200 (Some asset.content_type) (Some asset.size) closes ++ sent.0,
-  (sent.0, sent.1, refl),
-  sent_behind taken taken' taken'' (head_of 200 (Some asset.content_type) (Some asset.size) closes) sent.0 result head sent.2,
+-- or as a whole, and the content behind it
+pub alone_content : {R E : Type 0} (told : Type 0) (left : R → List ℕ) (front : List ℕ) (download : Download R) (taken taken' taken'' : Option (List ℕ)) (result : Result (Unit {0}) E)
+    → Appends taken taken' front → SentSome (IsGivenBehind told left [] download) taken' taken'' result
+    → SentSome (IsGivenBehind told left front download) taken taken'' result
+alone_content told left front download taken taken' taken'' result first sent = (
+  front ++ sent.0,
+  (sent.0, λ t whole. sent.1.2 ∙ sent.1.1 t whole, refl),
+  sent_behind taken taken' taken'' front sent.0 result first sent.2,
 )
 
 -- the reader was taken back behind the download

@@ -4,11 +4,10 @@ pub mod TurnsMade
 pub mod TurnsSaid
 pub mod Sendings
 pub mod GivingOut
-pub mod Writings
 pub mod Uploads
 pub mod Denials
+pub mod Beginnings
 pub mod Puttings
-pub mod HeadsSaid
 pub mod PutsSaid
 pub mod Held
 pub mod Leading

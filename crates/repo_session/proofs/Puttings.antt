@@ -29,6 +29,7 @@ use Rattle.http_front.specs.Answers.{last_reply}
 use Rattle.http_front.specs.Calls.{put_call}
 use Rattle.http_front.specs.Contents.{Contents, with_content}
 use Rattle.http_front.specs.Served.{Serves}
+use Rattle.session_history.specs.Asking.{begin_of}
 use Rattle.repo_core.specs.Puts.{MayGo, AreBytes, upload_of}
 use Rattle.repo_core.specs.Puts.{put_call as core_put}
 use Rattle.repo_core.specs.View.{CoreView}
@@ -37,7 +38,6 @@ use Rattle.repo_session.specs.Standing.{Stands}
 use Rattle.repo_session.specs.Leads.{IsEntryOf, LeadsBy}
 use Rattle.repo_session.specs.Called.{Since, Called}
 use Rattle.repo_session.specs.Resting.{Rests}
-use Rattle.repo_session.specs.Uploading.{begin_of}
 use Rattle.repo_session.specs.Answering.{HasBegun, IsBegun}
 use Rattle.repo_session.specs.Turned.{setting_of, TurnMade, TurnLeads}
 use Rattle.repo_session.specs.Putting.{IsPut, IsPutReply}

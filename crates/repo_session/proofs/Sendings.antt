@@ -3,8 +3,8 @@ use Rattle.std.proofs.Common.{◌≡◌, ℕ, ◌+◌, List, [], ◌++◌, lengt
 use Rattle.std.proofs.Math.Seq.{take-append-add}
 use Rattle.std.proofs.lemmas.List.{append-nil, take-append-le, length-append}
 use Rattle.std.specs.Io.KnownBytes.{Appends}
-use Rattle.http_front.specs.declared.replies.Unsaid.{Unsaid}
-use Rattle.http_front.specs.declared.replies.Unsaid.TheVariants.{WriteFault, DownloadFault}
+use Rattle.http_front.specs.declared.unsaid.Unsaid.{Unsaid}
+use Rattle.http_front.specs.declared.unsaid.Unsaid.TheVariants.{WriteFault, DownloadFault}
 use Rattle.http_front.specs.Replying.{IsAnswered}
 use Rattle.repo_session.specs.Sending.{Sent, OnlyWriteFails}
 

@@ -1,5 +1,5 @@
 -- The turn of an upload that was begun and not put.
-use Rattle.std.proofs.Common.{◌≡◌, inl, inr, ℕ, ◌<◌, true, false, List, [], ◌∷◌, ◌++◌, length, Option, Some, None, IsSome, Result, refl, sym, ap, ◌∙◌, subst, arith, append-nil}
+use Rattle.std.proofs.Common.{◌≡◌, inl, inr, ℕ, ◌<◌, true, false, List, [], ◌∷◌, length, Option, Some, None, IsSome, refl, sym, ap, ◌∙◌, subst, arith}
 use Rattle.sha1.specs.Sha1.{sha1}
 use Rattle.nx_io.specs.Causes.{RoseBy}
 use Rattle.nx_base.specs.declared.moment.Moment.{Moment}
@@ -15,31 +15,29 @@ use Rattle.http_heads.specs.declared.method.Method.{Method}
 use Rattle.http_heads.specs.declared.method.Method.TheVariants as methods
 use Rattle.http_heads.specs.declared.body_err.BodyErr.{BodyErr}
 use Rattle.http_heads.specs.Head.{is_put}
-use Rattle.http_heads.specs.Response.{Why, why_body, refused_with}
+use Rattle.http_heads.specs.Response.{Why, why_body}
 use Rattle.http_requests.specs.Requests.{Item, refused, whole, stopped, cut}
 use Rattle.http_front.specs.declared.stop.Stop.{Stop}
-use Rattle.http_front.specs.Answers.{Answer}
+use Rattle.http_front.specs.Answers.{Answer, last_refusal, silence}
 use Rattle.http_front.specs.Asking.{IsOf}
 use Rattle.http_front.specs.Calls.{call_of, first_call, next_call}
 use Rattle.http_front.specs.Contents.{Contents}
 use Rattle.http_front.specs.Entries.{goes_on}
-use Rattle.http_front.specs.Replying.{AnswersAll, IsAnswered}
-use Rattle.http_front.specs.declared.replies.Unsaid.{Unsaid}
 use Rattle.http_front.specs.Responses.{why_stopped}
+use Rattle.session_history.specs.Asking.{begin_of}
+use Rattle.session_history.specs.Saying.{why_upload}
+use Rattle.session_driver.specs.Replying.{AnswersEach, told}
 use Rattle.repo_core.specs.View.{CoreView}
 use Rattle.repo_session.specs.Devices.{Devices}
 use Rattle.repo_session.specs.Standing.{Stands}
 use Rattle.repo_session.specs.Leads.{IsEntryOf, LeadsBy}
 use Rattle.repo_session.specs.Called.{Since}
 use Rattle.repo_session.specs.Resting.{Rests}
-use Rattle.repo_session.specs.Uploading.{begin_of, before_content}
-use Rattle.repo_session.specs.Answering.{HasBegun, stop_of}
-use Rattle.repo_session.specs.Turned.{setting_of, stop_faults, TurnMade, TurnLeads, Turned, DownloadFails}
-use Rattle.repo_session.specs.Sending.{Sent, OnlyWriteFails}
+use Rattle.repo_session.specs.Answering.{HasBegun, TurnedTo, stop_of}
+use Rattle.repo_session.specs.Turned.{setting_of, stop_faults, TurnMade, TurnLeads}
 use Rattle.repo_session.proofs.Makings.{said_to, makes_one}
 use Rattle.repo_session.proofs.Sayings.{answer_stop, answer_stopped, answer_cut}
 use Rattle.repo_session.proofs.TurnsMade.{since_rests, told_before, rose_none}
-use Rattle.repo_session.proofs.Writings.{refused_by}
 
 -- the entry of the beginning
 abbrev pub begin_entry : Head → List ℕ → Entry
@@ -115,7 +113,7 @@ stop_rose errors.NoMemory before now part faulty takes = rose_none before now ta
 pub upload_stopped : {D T : Type 0} (devices : Devices D T) (start mid new : CoreView D T) (head : Head) (store : List ℕ) (stop : Stop) (moment : Moment)
     → is_put head.method ≡ true → HasBegun devices start mid head store → Rests devices mid new
     → RoseBy (stop_faults (Some stop)) (devices.disk_faults mid.disk) (devices.disk_faults new.disk)
-    → AnswersAll (λ item bytes. Turned devices start new moment item bytes true) head (before_content head ++ refused_with false true (why_stopped stop))
+    → AnswersEach (TurnedTo devices start new moment) head (told head (last_refusal false (why_stopped stop)))
 upload_stopped devices start mid new head store stop moment put begun rests rose item of = record {
   stop = Some stop;
   entries = begin_entry head store ∷ [];
@@ -131,21 +129,10 @@ upload_stopped devices start mid new head store stop moment put begun rests rose
     no_more (stopped asked content why) = refl
     no_more (cut asked content) = refl
 
--- the same as it was written
-pub stop_said : {D T : Type 0} (devices : Devices D T) (start mid new : CoreView D T) (head : Head) (store : List ℕ) (why : UploadErr) (moment : Moment)
-    (w : Why) (part : ℕ) (taken taken' : Option (List ℕ)) (result : Result (Unit {0}) Unsaid)
-    → is_put head.method ≡ true → HasBegun devices start mid head store → Rests devices mid new
-    → (why ≡ errors.DiskFault → 0 < part) → TakesBack (devices.disk_faults mid.disk) (devices.disk_faults new.disk) part
-    → w ≡ why_stopped (stop_of why) → Sent taken taken' (refused_with false true w) result → OnlyWriteFails result
-    → IsAnswered (AnswersAll (λ item bytes. Turned devices start new moment item bytes true) head) (DownloadFails devices mid new) (before_content head) taken taken' result
-stop_said devices start mid new head store why moment w part taken taken' result put begun rests faulty takes words sent only =
-    refused_by (AnswersAll (λ item bytes. Turned devices start new moment item bytes true) head) (DownloadFails devices mid new) (before_content head) false true w (why_stopped (stop_of why)) taken taken' result words
-    (upload_stopped devices start mid new head store (stop_of why) moment put begun rests (stop_rose why _ _ part faulty takes)) sent only
-
 -- One whose content was refused is answered with that.
 pub upload_refused : {D T : Type 0} (devices : Devices D T) (start mid new : CoreView D T) (head : Head) (store content : List ℕ) (why : BodyErr) (moment : Moment)
     → is_put head.method ≡ true → HasBegun devices start mid head store → Rests devices mid new
-    → Turned devices start new moment (stopped head content why) (before_content head ++ refused_with false true (why_body why)) true
+    → TurnedTo devices start new moment (stopped head content why) (told head (last_refusal false (why_body why)))
 upload_refused devices start mid new head store content why moment put begun rests = record {
   stop = None;
   entries = begin_entry head store ∷ [];
@@ -155,25 +142,25 @@ upload_refused devices start mid new head store content why moment put begun res
       record { bytes_are = ap (λ (a : Answer). a.bytes) (sym says); ends_are = ap (λ (a : Answer). a.ends) (sym says) };
 }
 
--- the same as it was written
-pub refusal_said : {D T : Type 0} (devices : Devices D T) (start mid new : CoreView D T) (head : Head) (store content : List ℕ) (why : BodyErr) (moment : Moment)
-    (w : Why) (taken taken' : Option (List ℕ)) (result : Result (Unit {0}) Unsaid)
-    → is_put head.method ≡ true → HasBegun devices start mid head store → Rests devices mid new
-    → w ≡ why_body why → Sent taken taken' (refused_with false true w) result → OnlyWriteFails result
-    → IsAnswered (λ bytes. Turned devices start new moment (stopped head content why) bytes true) (DownloadFails devices mid new) (before_content head) taken taken' result
-refusal_said devices start mid new head store content why moment w taken taken' result put begun rests words sent only =
-    refused_by (λ bytes. Turned devices start new moment (stopped head content why) bytes true) (DownloadFails devices mid new) (before_content head) false true w (why_body why) taken taken' result words
-    (upload_refused devices start mid new head store content why moment put begun rests) sent only
-
 -- To one that was cut nothing more is said.
 pub upload_cut : {D T : Type 0} (devices : Devices D T) (start mid new : CoreView D T) (head : Head) (store content : List ℕ) (moment : Moment)
     → is_put head.method ≡ true → HasBegun devices start mid head store → Rests devices mid new
-    → Turned devices start new moment (cut head content) (before_content head) true
+    → TurnedTo devices start new moment (cut head content) (told head silence)
 upload_cut devices start mid new head store content moment put begun rests = record {
   stop = None;
   entries = begin_entry head store ∷ [];
   made = upload_turn devices start mid new head store (cut head content) None moment put refl refl begun rests (rose_none _ _ rests.later);
   says = λ told is state contents stands.
       let says = answer_cut contents head content (begin_entry head store ∷ []) put refl in
-      record { bytes_are = sym (append-nil (before_content head)) ∙ ap (λ (a : Answer). a.bytes) (sym says); ends_are = ap (λ (a : Answer). a.ends) (sym says) };
+      record { bytes_are = ap (λ (a : Answer). a.bytes) (sym says); ends_are = ap (λ (a : Answer). a.ends) (sym says) };
 }
+
+-- the same, said as the upload's own failure
+pub upload_failed : {D T : Type 0} (devices : Devices D T) (start mid new : CoreView D T) (head : Head) (store : List ℕ) (why said : UploadErr) (moment : Moment) (part : ℕ)
+    → is_put head.method ≡ true → HasBegun devices start mid head store → Rests devices mid new
+    → (why ≡ errors.DiskFault → 0 < part) → TakesBack (devices.disk_faults mid.disk) (devices.disk_faults new.disk) part
+    → why_upload said ≡ why_stopped (stop_of why)
+    → AnswersEach (TurnedTo devices start new moment) head (told head (last_refusal false (why_upload said)))
+upload_failed devices start mid new head store why said moment part put begun rests faulty takes words =
+    subst (λ (w : Why). AnswersEach (TurnedTo devices start new moment) head (told head (last_refusal false w))) (sym words)
+    (upload_stopped devices start mid new head store (stop_of why) moment put begun rests (stop_rose why _ _ part faulty takes))

@@ -10,9 +10,6 @@ pub mod Holding
 pub mod Drawing
 pub mod Uploading
 pub mod Answering
+pub mod Looked
 pub mod Putting
-pub mod Beginning
-pub mod Saying
-pub mod Heads
-pub mod Feeding
 pub mod Serving

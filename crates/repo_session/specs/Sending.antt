@@ -2,8 +2,8 @@
 use Rattle.std.specs.Prelude.{ℕ, ◌≤◌, List, length, take, Result, Ok, Err}
 use Rattle.std.specs.declared.option.Option.{Option}
 use Rattle.std.specs.Io.KnownBytes.{Appends}
-use Rattle.http_front.specs.declared.replies.Unsaid.{Unsaid}
-use Rattle.http_front.specs.declared.replies.Unsaid.TheVariants.{WriteFault, DownloadFault}
+use Rattle.http_front.specs.declared.unsaid.Unsaid.{Unsaid}
+use Rattle.http_front.specs.declared.unsaid.Unsaid.TheVariants.{WriteFault, DownloadFault}
 
 -- all of it, or a front of it
 abbrev pub Sent : {E : Type 0} → Option (List ℕ) → Option (List ℕ) → List ℕ → Result (Unit {0}) E → Type 0

@@ -1,148 +1,139 @@
-//! What answers the requests of a session over a core.
-ghost use Rattle.std.specs.Prelude.{◌≡◌, slice_get, Some, None, true};
-ghost use Rattle.http_front.specs.declared.fed.Fed.TheVariants as fed;
+//! What a session asks of a core.
+ghost use Rattle.http_front.specs.Answers.{Answer};
 ghost use Rattle.repo_session.specs.Devices.{devices};
-ghost use Rattle.repo_session.specs.Saying.{fed_of};
 ghost use Rattle.repo_session.specs.Turned.{DownloadFails};
-ghost use Rattle.repo_session.specs.Answering.{Answered, WaitsFor, session_view};
+ghost use Rattle.repo_session.specs.Answering.{Answered, UploadWaits, IsFree, session_view};
+ghost use Rattle.repo_session.specs.Looked.{IsLooked};
 
-use crate::beginnings::is_put;
-use crate::bodiless::answer_bodiless;
+use crate::asking;
+use crate::asking::{begin_upload, end_upload, remove};
+use crate::downloads::{give, let_go};
 use crate::draws::Draws;
-use crate::feeding::{FedUpload, feed};
-use crate::heads::{HeadEnd, answer_upload_head};
+use crate::looks::looked;
 use crate::open_upload::OpenUpload;
-use crate::puts::{answer_put, cut_upload, refuse_content};
-use crate::responses::send_refusal;
+use crate::puts::{finish, stop_upload};
+use crate::writing::write;
 use asset_keeper::Keeper;
+use blob_files::Download;
 use disk_model::Disk;
-use http_front::{Begun, Fed, Replies, Unsaid};
-use http_heads::{BodyErr, Head, HeadErr, RefusalWords};
+use http_front::Unsaid;
+use nx_base::{Key, StoreName};
 use nx_io::Sink;
 use repo_core::Core;
+use repo_model::{Begin, Kind, Look, Reply, UploadErr};
+use session_driver::Repository;
 use std::alloc::Global;
 
-/// A core that answers the requests of one session, with the moments that it draws.
+/// A core that makes the calls of one session, with the moments that it draws: one for each request.
 #[derive(Drop)]
-pub struct Answering<D: Disk, T: Keeper, W: Drop> {
+pub struct Answering<D: Disk, T: Keeper, W: Drop, R: Drop> {
     pub alloc: Global,
     pub core: Core<D, T>,
     pub draws: Draws,
     /// The upload whose content is being read.
     pub upload: Option<OpenUpload<W>>,
-    /// Whether the last answer ended the session.
-    pub over: bool,
-    ghost free: { slice_get core.holds 0 ≡ Some None },
+    /// The content that a look opened, to be given out.
+    pub found: Option<Download<R>>,
+    ghost free: { IsFree found core.holds },
 }
 
-/// What became of a request, behind whose answer the session ends or not.
-fn fed(ends: bool, sent: Result<(), Unsaid>) -> Result<Fed, Unsaid>
-    ensures { result ≡ fed_of ends sent }
-{
-    match sent {
-        Ok(()) => Ok(if ends { Fed::Last } else { Fed::Taken }),
-        Err(unsaid) => Err(unsaid),
-    }
-}
+impl<D: Disk, T: Keeper> Repository for Answering<D, T, D::Writer, D::Reader> {
+    ghost Answers = { λ x y item answer. Answered (devices D.told D.tree T.table D.faults T.faults) (session_view x.core x.draws x.upload x.found) (session_view y.core y.draws y.upload y.found) item answer };
 
-impl<D: Disk, T: Keeper, W: Drop> Answering<D, T, W> {
-    /// Ends the session.
-    fn end(&mut self) -> Fed
-        ensures { (result ≡ fed.Last) × (self.new.over ≡ true) }
-    {
-        self.over = true;
-        Fed::Last
-    }
-}
+    ghost Uploads = { λ x y head content. UploadWaits (devices D.told D.tree T.table D.faults T.faults) D.Writer.told D.Writer.written (session_view x.core x.draws x.upload x.found) (session_view y.core y.draws y.upload y.found) head content };
 
-impl<D: Disk, T: Keeper> Replies for Answering<D, T, D::Writer> {
-    ghost Answers = { λ x y item bytes. Answered (devices D.told D.tree T.table D.faults T.faults) (session_view x.core x.draws x.upload x.over) (session_view y.core y.draws y.upload y.over) item bytes };
-
-    ghost Waits = { λ x y head content said. WaitsFor (devices D.told D.tree T.table D.faults T.faults) D.Writer.told D.Writer.written (session_view x.core x.draws x.upload x.over) (session_view y.core y.draws y.upload y.over) head content said };
+    ghost Looked = { λ x y head said. IsLooked (devices D.told D.tree T.table D.faults T.faults) D.Reader.left (session_view x.core x.draws x.upload x.found) (session_view y.core y.draws y.upload y.found) head said };
 
     ghost Fails = { λ x y. DownloadFails (devices D.told D.tree T.table D.faults T.faults) x.core y.core };
 
-    ghost is_over = { λ x. x.over };
-
-    fn refused<K: Sink>(&mut self, why: HeadErr, bare: bool, output: &mut K) -> Result<(), Unsaid> {
+    fn refused(&mut self) {
         self.draws.draw();
-        self.over = true;
-        let (status, word) = why.answer();
-        send_refusal(output, status, &RefusalWords::new(word), bare, true)
     }
 
-    fn begin<K: Sink>(&mut self, head: &Head, output: &mut K) -> Result<Begun, Unsaid> {
-        if !is_put(head.method) {
-            return Ok(Begun::Wanted);
-        }
-        let moment = self.draws.peek();
-        match answer_upload_head(self.alloc, &mut self.core, head, moment, output) {
-            HeadEnd::Wanted(open) => {
-                self.upload = Some(open);
-                Ok(Begun::Wanted)
-            }
-            HeadEnd::Answered { over, begun } => {
-                self.draws.draw();
-                self.over = over;
-                begun
-            }
-        }
-    }
-
-    fn part<K: Sink>(&mut self, head: &Head, part: &[u8], output: &mut K) -> Result<Fed, Unsaid> {
-        if !is_put(head.method) {
-            return Ok(Fed::Taken);
-        }
-        let Some(open) = self.upload.take() else {
-            return Ok(self.end());
+    fn begin(&mut self, begin: Begin) -> Result<Reply, UploadErr> {
+        // A session asks of this reply only whether an upload was begun, so its name is no store's. Its memory is taken before the call:
+        // behind that a want of memory would be no answer.
+        let Ok(store) = StoreName::parse(self.alloc, b"begun") else {
+            self.draws.draw();
+            return Err(UploadErr::NoMemory);
         };
-        match feed(&mut self.core, open, part, output) {
-            FedUpload::Taken(open) => {
-                self.upload = Some(open);
-                Ok(Fed::Taken)
+        let begin = Begin {
+            key: begin.key,
+            content_type: begin.content_type,
+            kind: Kind::Put,
+        };
+        match begin_upload(&mut self.core, begin) {
+            Ok(upload) => {
+                self.upload = Some(OpenUpload { upload });
+                Ok(Reply::Begun { store })
             }
-            FedUpload::Ended(sent) => {
+            Err(refusal) => {
                 self.draws.draw();
-                self.over = true;
-                fed(true, sent)
+                Ok(Reply::Refused(refusal))
             }
         }
     }
 
-    fn whole<K: Sink>(&mut self, head: Head, output: &mut K) -> Result<Fed, Unsaid> {
+    fn take(&mut self, part: &[u8]) -> Result<(), UploadErr> {
+        let Some(open) = self.upload.take() else {
+            return Err(UploadErr::NoMemory);
+        };
+        let mut upload = open.upload;
+        match upload.write(part) {
+            Ok(()) => {
+                self.upload = Some(OpenUpload { upload });
+                Ok(())
+            }
+            Err(why) => {
+                self.draws.draw();
+                Err(stop_upload(&mut self.core, upload, why))
+            }
+        }
+    }
+
+    fn commit(&mut self) -> Result<Reply, UploadErr> {
         let moment = self.draws.draw();
-        if !is_put(head.method) {
-            let said = answer_bodiless(&mut self.core, head, moment, output);
-            self.over = said.ends;
-            return fed(said.ends, said.sent);
-        }
         let Some(open) = self.upload.take() else {
-            return Ok(self.end());
+            return Err(UploadErr::NoMemory);
         };
-        let said = answer_put(&mut self.core, open, head.closes, moment, output);
-        self.over = said.ends;
-        fed(said.ends, said.sent)
+        finish(&mut self.core, open, moment)
     }
 
-    fn stopped<K: Sink>(
-        &mut self,
-        _head: &Head,
-        why: BodyErr,
-        output: &mut K,
-    ) -> Result<(), Unsaid> {
+    fn abort(&mut self) {
         self.draws.draw();
-        self.over = true;
-        match self.upload.take() {
-            Some(open) => refuse_content(&mut self.core, open.upload, why, output),
-            None => Ok(()),
+        if let Some(open) = self.upload.take() {
+            end_upload(&mut self.core, open.upload);
         }
     }
 
-    fn cut(&mut self, _head: &Head) {
+    fn cut(&mut self) {
         self.draws.draw();
-        self.over = true;
         if let Some(open) = self.upload.take() {
-            cut_upload(&mut self.core, open.upload);
+            end_upload(&mut self.core, open.upload);
+        }
+    }
+
+    fn look(&mut self, key: Key, look: Look) -> Reply {
+        let_go(&mut self.core, self.found.take());
+        let moment = self.draws.draw();
+        let got = asking::look(&mut self.core, key, look, moment);
+        let (said, found) = looked(got);
+        self.found = found;
+        said
+    }
+
+    fn send<K: Sink>(&mut self, front: &[u8], output: &mut K) -> Result<(), Unsaid> {
+        match self.found.take() {
+            Some(download) => give(&mut self.core, front, download, output),
+            None => write(output, front),
+        }
+    }
+
+    fn delete(&mut self, key: Key) -> Reply {
+        let moment = self.draws.draw();
+        match remove(&mut self.core, key, moment) {
+            Ok(()) => Reply::Gone,
+            Err(refusal) => Reply::Refused(refusal),
         }
     }
 }

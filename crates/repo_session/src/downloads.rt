@@ -1,77 +1,123 @@
 //! A content on its way out.
-ghost use Rattle.std.specs.Prelude.{◌≡◌, slice_set, None};
+ghost use Rattle.std.specs.Prelude.{◌≡◌, ◌+◌, ◌≤◌, length, take, slice_set, slice_get, Some, None, IfOk, IfErr};
+ghost use Rattle.nx_io.specs.Causes.{HasCauseWhere};
+ghost use Rattle.blob_files.specs.Downloads.{IsWhole, IsFault};
 ghost use Rattle.http_front.specs.Replying.{HasSinkCause};
+ghost use Rattle.repo_session.specs.Answering.{IsFree};
 ghost use Rattle.repo_session.specs.Devices.{devices};
 ghost use Rattle.repo_session.specs.Resting.{Rests};
 ghost use Rattle.repo_session.specs.Sending.{SentSome};
-ghost use Rattle.repo_session.specs.Giving.{IsGiven, IsFoundWith, HasFailed, HasGivenCause};
+ghost use Rattle.repo_session.specs.Giving.{HasRead, IsGivenBehind, HasFailed, HasGivenCause};
 
 use crate::asking::end_download;
-use crate::responses::{send, send_found};
+use crate::writing::write;
 use asset_keeper::Keeper;
 use blob_files::Download;
 use disk_model::{Disk, Reader};
 use http_front::Unsaid;
-use nx_base::Asset;
 use nx_io::Sink;
 use repo_core::Core;
+use repo_model::DownloadErr;
 
-/// Writes the bytes of a download as they come, part by part.
-fn send_content<R: Reader, K: Sink>(
+/// Reads the next bytes of a download into a piece, behind what stands there.
+fn read_behind<R: Reader>(
+    download: &mut Download<R>,
+    piece: &mut [u8; 32_768],
+    at: usize,
+) -> Result<usize, DownloadErr>
+    requires { at ≤ 1024 }
+    ensures read { IfOk result (HasRead R.told R.left R.faults download.old download.new (take at piece.old) piece.new at) }
+    ensures within { IfOk result (λ count. at + count ≤ 32768) }
+    // None come only at the download's end.
+    ensures end { IfOk result (λ count. count ≡ 0 → download.new.given ≡ download.new.size) }
+    ensures stays { take at piece.new ≡ take at piece.old }
+    ensures never_short { R.told → IsWhole R.left download.old → IfErr result IsFault }
+    ensures cause { HasCauseWhere IsFault (R.faults download.old.reader) (R.faults download.new.reader) result }
+{
+    match download.read(&mut piece[at..]) {
+        Ok(count) => Ok(count),
+        Err(why) => Err(why),
+    }
+}
+
+/// Writes the front of a response and the bytes of a download behind it as they come, piece by piece. The first piece has the front.
+fn send_pieces<R: Reader, K: Sink>(
+    front: &[u8],
     download: &mut Download<R>,
     output: &mut K,
 ) -> Result<(), Unsaid>
-    ensures sent { SentSome (IsGiven R.told R.left download.old) (K.taken output.old) (K.taken output.new) result }
+    requires { length front.now ≤ 1024 }
+    ensures sent { SentSome (IsGivenBehind R.told R.left front.now download.old) (K.taken output.old) (K.taken output.new) result }
     ensures cause { HasSinkCause (K.faults output.old) (K.faults output.new) result }
     ensures failed { HasFailed R.told R.left R.faults download.old download.new result }
 {
     let mut piece = [0; 32_768];
+    let mut at = front.len();
+    piece[..at].copy_from_slice(front);
     'pieces: loop {
-        match download.read(&mut piece) {
-            Ok(0) => return Ok(()),
+        match read_behind(download, &mut piece, at) {
+            Ok(0) => return write(output, &piece[..at]),
             Ok(count) => {
-                if let Err(unsaid) = send(output, &piece[..count]) {
+                if let Err(unsaid) = write(output, &piece[..at + count]) {
                     return Err(unsaid);
                 }
+                at = 0;
             }
-            Err(_) => return Err(Unsaid::DownloadFault),
+            Err(_) => {
+                if let Err(unsaid) = write(output, &piece[..at]) {
+                    return Err(unsaid);
+                }
+                return Err(Unsaid::DownloadFault);
+            }
         }
     }
 }
 
-/// Writes the head of the response for an asset, and its content.
-fn send_asset<R: Reader, K: Sink>(
-    asset: &Asset,
+/// Writes the front of a response and the bytes of a download. A front that has no place in a piece is written alone.
+fn send_content<R: Reader, K: Sink>(
+    front: &[u8],
     download: &mut Download<R>,
-    closes: bool,
     output: &mut K,
 ) -> Result<(), Unsaid>
-    ensures sent { SentSome (IsFoundWith R.told R.left asset.now closes download.old) (K.taken output.old) (K.taken output.new) result }
+    ensures sent { SentSome (IsGivenBehind R.told R.left front.now download.old) (K.taken output.old) (K.taken output.new) result }
     ensures cause { HasSinkCause (K.faults output.old) (K.faults output.new) result }
     ensures failed { HasFailed R.told R.left R.faults download.old download.new result }
 {
-    if let Err(unsaid) = send_found(output, &asset.content_type, asset.size, closes) {
+    if front.len() <= 1_024 {
+        return send_pieces(front, download, output);
+    }
+    if let Err(unsaid) = write(output, front) {
         return Err(unsaid);
     }
-    send_content(download, output)
+    send_pieces(&[], download, output)
 }
 
-/// Gives an asset out with its content, and ends the download.
+/// Gives a content out behind the front of its response, and ends the download.
 pub(crate) fn give<D: Disk, T: Keeper, K: Sink>(
     core: &mut Core<D, T>,
-    asset: &Asset,
+    front: &[u8],
     download: Download<D::Reader>,
-    closes: bool,
     output: &mut K,
 ) -> Result<(), Unsaid>
-    ensures sent { SentSome (IsFoundWith D.Reader.told D.Reader.left asset.now closes download) (K.taken output.old) (K.taken output.new) result }
+    ensures sent { SentSome (IsGivenBehind D.Reader.told D.Reader.left front.now download) (K.taken output.old) (K.taken output.new) result }
     ensures cause { HasSinkCause (K.faults output.old) (K.faults output.new) result }
     ensures failed { HasGivenCause D.Reader.told D.Reader.left (D.faults core.old.disk) (D.faults core.new.disk) download result }
     ensures rests { Rests (devices D.told D.tree T.table D.faults T.faults) core.old core.new }
     ensures holds { core.new.holds ≡ slice_set core.old.holds 0 None }
 {
     let mut download = download;
-    let sent = send_asset(asset, &mut download, closes, output);
+    let sent = send_content(front, &mut download, output);
     end_download(core, download);
     sent
+}
+
+/// Ends a download that is open, if one is.
+pub(crate) fn let_go<D: Disk, T: Keeper>(core: &mut Core<D, T>, found: Option<Download<D::Reader>>)
+    requires { IsFree found core.old.holds }
+    ensures rests { Rests (devices D.told D.tree T.table D.faults T.faults) core.old core.new }
+    ensures free { slice_get core.new.holds 0 ≡ Some None }
+{
+    if let Some(download) = found {
+        end_download(core, download);
+    }
 }

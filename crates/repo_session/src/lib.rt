@@ -5,9 +5,9 @@
 //! repeats ([`Draws`]). What an upload keeps while its content comes is an [`OpenUpload`].
 //!
 //! - `asking` makes the calls of the core: each has one entry, and leads from what the devices stand for to what they then stand for;
-//! - `heads`, `beginnings`, `feeding`, `puts` and `give_up` answer a PUT, from its head to the end of its content, part by part;
-//! - `bodiless`, `looks`, `downloads` and `deletes` answer the others;
-//! - [`Answering`] hands these to `http_front`, as what answers requests;
+//! - `puts` ends an upload: by its put, or by what failed;
+//! - `looks` says what a look replies and opens, and `downloads` gives out what is open, behind the head of its response;
+//! - [`Answering`] hands these to `session_driver`, which says the rest;
 //! - [`serve`] runs a session.
 //!
 //! What is promised of [`serve`]: the requests that were read made turns, in their order, whose entries are those by which the
@@ -18,20 +18,13 @@
 
 mod answering;
 mod asking;
-mod beginnings;
-mod bodiless;
-mod deletes;
 mod downloads;
 mod draws;
-mod feeding;
-mod give_up;
-mod heads;
 mod looks;
 mod open_upload;
 mod puts;
-mod responses;
-mod said;
 mod serving;
+mod writing;
 
 pub use answering::Answering;
 pub use draws::Draws;

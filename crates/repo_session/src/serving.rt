@@ -8,12 +8,14 @@ ghost use Rattle.repo_session.specs.Serving.{HasTurns, HasTurnsPast};
 ghost use Rattle.repo_session.specs.Turned.{DownloadFails};
 
 use crate::answering::Answering;
+use crate::downloads::let_go;
 use crate::draws::Draws;
 use asset_keeper::Keeper;
 use disk_model::Disk;
-use http_front::{End, run_session};
+use http_front::End;
 use nx_io::{Sink, Source};
 use repo_core::Core;
+use session_driver::run_session;
 use std::alloc::Global;
 
 /// Answers the requests of the input over a core, as its caller 0, up to the first that ends the session. The core is given back.
@@ -35,8 +37,10 @@ pub fn serve<D: Disk, T: Keeper, S: Source, K: Sink>(
         core,
         draws,
         upload: None,
-        over: false,
+        found: None,
     };
     let end = run_session(alloc, &mut answering, input, output);
-    (end, answering.core)
+    let mut core = answering.core;
+    let_go(&mut core, answering.found);
+    (end, core)
 }

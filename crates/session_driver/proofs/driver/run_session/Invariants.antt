@@ -1,0 +1,17 @@
+-- The driver stands between requests or in a content, and no count fell.
+use Rattle.std.proofs.Common.{◌≤◌, ℕ, List}
+use Rattle.session_driver.specs.Going.{distance}
+use Rattle.session_driver.specs.Standing.{HasFed, Stands}
+use Rattle.session_driver.proofs.driver.run_session.Given as goal
+
+abbrev pub invariant-steps : goal.invariant-steps
+invariant-steps g l = record {
+  stands : (fed : List ℕ) × HasFed l.session (g.S.Source.left l.initial.input) (g.S.Source.left l.input) (g.S.Source.ended l.input) fed
+      × Stands g.R.Repository.Answers g.R.Repository.Uploads l.initial.repository l.repository l.session (g.K.Sink.taken l.initial.output) (g.K.Sink.taken l.output) fed;
+  reads : g.S.Source.faults l.initial.input ≤ g.S.Source.faults l.input;
+  writes : g.K.Sink.faults l.initial.output ≤ g.K.Sink.faults l.output;
+}
+
+-- each step brings it nearer to its end
+abbrev pub decreases-steps : goal.decreases-steps
+decreases-steps g l = distance l.session
