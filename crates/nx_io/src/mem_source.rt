@@ -1,7 +1,7 @@
 ghost use Rattle.std.specs.Prelude.{◌≡◌, ℕ, ◌+◌, ◌-◌, ◌^◌, ◌<◌, ◌≤◌, ◌↔◌, min, List, length, take, drop, Some, IsErr, IfOk, Contains};
 ghost use Rattle.std.specs.Io.{ReadsAtMost};
 ghost use Rattle.std.specs.Io.KnownBytes.{ReadConsumes};
-ghost use Rattle.nx_io.specs.Causes.{HasCause};
+ghost use Rattle.nx_io.specs.Causes.{HasCause, Counts};
 ghost use Rattle.nx_io.specs.Reads.{TellsEnd};
 ghost use Rattle.nx_io.specs.Feed.{Feed, feed};
 
@@ -59,6 +59,7 @@ impl Source for MemSource {
         ensures bytes { ReadConsumes (Some self.old.rest) (Some self.new.rest) result buf.new }
         ensures end { TellsEnd self.old.ended self.new.ended result buf.new }
         ensures cause { HasCause self.old.faults self.new.faults result }
+        ensures counts { Counts self.old.faults self.new.faults result }
 
         // Exactly the listed calls fail.
         ensures listed { IsErr result ↔ Contains self.old.failing self.old.calls }
