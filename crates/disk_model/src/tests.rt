@@ -261,6 +261,7 @@ fn a_disk_that_tells_nothing(rt: HostRuntime) -> Result<(), Stop> {
         alloc,
         faults: 0,
         looked: None,
+        shown: 0,
     };
     assert_eq!(rt; replace_small(&mut disk, &a, b"x"), Err(DiskErr::Failed));
     assert_eq!(rt; disk.faults, 1);
