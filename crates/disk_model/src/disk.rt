@@ -1,4 +1,4 @@
-ghost use Rattle.std.specs.Prelude.{◌≡◌, ◌↔◌, List, [], ℕ, Option, length, take, IfOk, Some, None, IsSome, IfSome, IsTrue, MatchResult, option_map, vec_len};
+ghost use Rattle.std.specs.Prelude.{◌≡◌, ◌≤◌, ◌↔◌, List, [], ℕ, Option, length, take, IfOk, Some, None, IsSome, IfSome, IsTrue, MatchResult, option_map, vec_len};
 ghost use Rattle.nx_io.specs.Causes.{Rose, HasCauseWhere, CountsWhere};
 ghost use Rattle.disk_model.specs.Disk.{Tree, Lists, Same, Puts, Joins, Settles, TakesBack, IsFault, IsListing, Among, small_limit};
 ghost use Rattle.disk_model.specs.Moments.{Ticks};
@@ -77,6 +77,7 @@ pub trait Disk {
         ensures crash { told → Joins result name.now (Some (Self.Writer.content file)) (lists self.old (clock self.old)) (lists self.new (clock self.new)) }
         ensures time { told → Ticks (clock self.old) (clock self.new) (lists self.old) (lists self.new) }
         ensures shown { Rose (shown self.old) (shown self.new) }
+        ensures forward { shown self.old ≤ shown self.new }
         ensures look { last_look self.new ≡ last_look self.old };
 
     /// Gives a sealed file up. It can't fail.
@@ -134,6 +135,7 @@ pub trait Disk {
         ensures crash { told → Joins result name.now None (lists self.old (clock self.old)) (lists self.new (clock self.new)) }
         ensures time { told → Ticks (clock self.old) (clock self.new) (lists self.old) (lists self.new) }
         ensures shown { Rose (shown self.old) (shown self.new) }
+        ensures forward { shown self.old ≤ shown self.new }
         ensures look { last_look self.new ≡ last_look self.old };
 
     /// The first 65,537 bytes at most, or None where the name is absent.
