@@ -23,3 +23,8 @@ pub mod Tellings
 pub mod Stays
 pub mod Breaks
 pub mod Choices
+pub mod WorkAnswers
+pub mod Works
+pub mod Returnings
+pub mod CallsMade
+pub mod Barrings

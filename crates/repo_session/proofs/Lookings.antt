@@ -43,7 +43,7 @@ use Rattle.repo_core.specs.Got.{IsGotFor}
 use Rattle.repo_core.specs.Looking.{found_in, HoldsAfter}
 use Rattle.repo_core.specs.View.{CoreView}
 use Rattle.repo_session.specs.declared.draws.Draws.{Draws}
-use Rattle.repo_session.specs.Devices.{Devices}
+use Rattle.repo_core.specs.Devices.{Devices}
 use Rattle.repo_session.specs.Drawing.{Drew}
 use Rattle.repo_session.specs.Standing.{Stands}
 use Rattle.repo_session.specs.Called.{Called}

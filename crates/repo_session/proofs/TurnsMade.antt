@@ -17,7 +17,7 @@ use Rattle.http_front.specs.Entries.{begins}
 use Rattle.http_front.specs.Served.{Serves}
 use Rattle.http_front.specs.Turns.{content_of}
 use Rattle.repo_core.specs.View.{CoreView}
-use Rattle.repo_session.specs.Devices.{Devices}
+use Rattle.repo_core.specs.Devices.{Devices}
 use Rattle.repo_session.specs.Standing.{Stands}
 use Rattle.repo_session.specs.Leads.{IsEntryOf}
 use Rattle.repo_session.specs.Called.{Since, HasDeviceCause, Called}

@@ -1,6 +1,10 @@
 -- An upload that was begun waits for its content, and one that wasn't is answered.
-use Rattle.std.proofs.Common.{refl, sym, true≢false}
+use Rattle.std.proofs.Common.{Ok, Err, refl, sym, true≢false}
+use Rattle.repo_model.specs.declared.call.Call.TheVariants as call
+use Rattle.repo_core.specs.Begun.{begun_in}
+use Rattle.repo_core.specs.Devices.{devices}
 use Rattle.repo_session.proofs.Beginnings.{called_of, upload_begun}
+use Rattle.repo_session.proofs.CoreCalls.{asked_plain}
 use Rattle.repo_session.proofs.Denials.{upload_denied, upload_not_asked}
 use Rattle.repo_session.proofs.Replied.{drew, each_answered}
 use Rattle.repo_session.proofs.answering.AnsweringWriterReaderRepository.begin.Goals as goal
@@ -9,14 +13,15 @@ pub returns-in_default : goal.returns-in_default
 returns-in_default g c = λ head is put.
     each_answered _ _ _ head _ c.draw.result (drew _ _ c.draw.result c.draw.ensures.value c.draw.ensures.moments c.draw.ensures.next) (upload_not_asked _ _ head c.draw.result put)
 
-pub returns-in-Ok-begin_upload : goal.returns-in-Ok-begin_upload
-returns-in-Ok-begin_upload g c = λ head is put.
-    let begun = c.in-Ok-begin_upload.ensures in (
+pub returns-in-Ok-begin : goal.returns-in-Ok-begin
+returns-in-Ok-begin g c = λ head is put.
+    let done = c.in-Ok-begin.ensures in
+    let called = asked_plain (devices g.D.Disk g.T.Keeper) _ _ (call.Begin _) begun_in (Ok c.in-Ok-begin.upload) tt refl (λ v. (λ e. cc, λ e. cc)) (λ v made e. cc) done.called done.survives in (
       λ yes. record {
         draws = refl;
-        upload = c.in-Ok-begin_upload.upload;
+        upload = c.in-Ok-begin.upload;
         kept = refl;
-        begun = upload_begun _ g.D.Writer.Writer.told g.D.Writer.Writer.written _ _ c.args.begin head c.in-Ok-begin_upload.upload is begun.called begun.target begun.may_go begun.taken;
+        begun = upload_begun _ g.D.Writer.Writer.told g.D.Writer.Writer.written _ _ c.args.begin head c.in-Ok-begin.upload is called done.begun.target done.begun.may_go done.taken;
       },
       λ no. absurd (true≢false no),
     )
@@ -25,6 +30,8 @@ pub returns-in-Err : goal.returns-in-Err
 returns-in-Err g c = λ head is put. (
   λ yes. absurd (true≢false (sym yes)),
   λ no.
+      let done = c.in-Err.ensures in
+      let called = asked_plain (devices g.D.Disk g.T.Keeper) _ _ (call.Begin _) begun_in (Err c.in-Err.refusal) tt refl (λ v. (λ e. cc, λ e. cc)) (λ v made e. cc) done.called done.survives in
       each_answered _ _ _ head _ c.draw-in-Err.result (drew _ _ c.draw-in-Err.result c.draw-in-Err.ensures.value c.draw-in-Err.ensures.moments c.draw-in-Err.ensures.next)
-      (upload_denied _ _ _ head c.in-Err.refusal c.draw-in-Err.result put (called_of _ _ _ c.args.begin head _ is c.in-Err.ensures.called)),
+      (upload_denied _ _ _ head c.in-Err.refusal c.draw-in-Err.result put (called_of _ _ _ c.args.begin head _ is called)),
 )

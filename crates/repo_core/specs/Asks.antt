@@ -1,0 +1,87 @@
+-- What a core is asked, as far as that tells one call from another.
+use Rattle.std.specs.Prelude.{◌≡◌, ℕ, List, [], ◌∷◌, Option, Some, None, Result}
+use Rattle.nx_base.specs.declared.asset.Asset.{Asset}
+use Rattle.nx_base.specs.declared.key.Key.{Key}
+use Rattle.nx_base.specs.declared.moment.Moment.{Moment}
+use Rattle.blob_files.specs.declared.ready.Ready.{Ready}
+use Rattle.blob_files.specs.declared.upload.Upload.{Upload}
+use Rattle.repo_model.specs.declared.call.Begin.{Begin}
+use Rattle.repo_model.specs.declared.call.Call.{Call}
+use Rattle.repo_model.specs.declared.call.Call.TheVariants as call
+use Rattle.repo_model.specs.declared.call.Look.{Look}
+use Rattle.repo_model.specs.declared.call.RemoteSaid.TheVariants as remote
+use Rattle.repo_model.specs.declared.entry.Entry.{Entry}
+use Rattle.repo_model.specs.declared.reply.Refusal.{Refusal}
+use Rattle.repo_model.specs.declared.reply.Reply.{Reply}
+use Rattle.repo_model.specs.declared.reply.Reply.TheVariants as reply
+use Rattle.repo_model.specs.declared.transfer.GotOf.{GotOf}
+use Rattle.repo_model.specs.Config.{Config}
+use Rattle.repo_model.specs.State.{State}
+use Rattle.disk_model.specs.Disk.{Tree}
+use Rattle.repo_core.specs.Answers.{entry_of}
+use Rattle.repo_core.specs.Begun.{begun_in}
+use Rattle.repo_core.specs.Devices.{Devices}
+use Rattle.repo_core.specs.Looking.{found_in}
+use Rattle.repo_core.specs.Parts.{IsQuiet}
+use Rattle.repo_core.specs.Puts.{put_call, upload_of, MayGo, AreBytes}
+use Rattle.repo_core.specs.Standing.{BeforeOrAfter}
+
+pub record Ask (D A : Type 0) : Type 1 where
+  -- which entries the journal gets, where it has room, of this answer
+  pub enters : Result A Refusal → List Entry → Type 0
+  -- which files a crash during the call may leave
+  pub leaves : Config → State → Tree → Type 0
+  -- the store of the upload that it ends, if it ends one
+  pub store : Option (List ℕ)
+  -- what is known of what is handed in, on which its step rests
+  pub premise : Type 0
+  -- what becomes of the disk where the call does nothing but give up what was handed in
+  pub gives_up : D → D → Type 0
+
+-- one entry: the call with its answer
+abbrev pub EntersOne : {A : Type 0} → ℕ → Call → (A → Reply) → Result A Refusal → List Entry → Type 0
+EntersOne caller c says result entries = entries ≡ entry_of caller c says result ∷ []
+
+-- A call to which nothing is handed. It makes one entry.
+abbrev pub asks : {D A : Type 0} → ℕ → Call → (A → Reply) → Ask D A
+asks caller c says = record {
+  enters = EntersOne caller c says;
+  leaves = λ config s. BeforeOrAfter config s c;
+  store = None;
+  premise = Unit {0};
+  gives_up = λ old new. new ≡ old;
+}
+
+-- The disk took a sealed file back: nothing can be seen of it, and it counts no fault.
+pub record TookBack {D T : Type 0} (on : Devices D T) (old new : D) : Type 0 where
+  pub quiet : IsQuiet on old new
+  pub faults : on.disk_faults new ≡ on.disk_faults old
+
+-- A call that puts a sealed file, which it gives up where it does nothing. `premise` is what is known of the file and its store.
+abbrev pub asks_to_store : {D T A : Type 0} → Devices D T → ℕ → Call → (A → Reply) → List ℕ → Type 0 → Ask D A
+asks_to_store on caller c says store premise = record {
+  enters = EntersOne caller c says;
+  leaves = λ config s. BeforeOrAfter config s c;
+  store = Some store;
+  premise = premise;
+  gives_up = TookBack on;
+}
+
+-- the beginning of an upload
+abbrev pub begins : {D W : Type 0} → ℕ → Begin → Ask D (Upload W)
+begins caller begin = asks caller (call.Begin begin) begun_in
+
+-- the deletion of a key's content
+abbrev pub deletes : {D : Type 0} → ℕ → Key → Moment → Ask D (Unit {0})
+deletes caller key moment = asks caller (call.Delete key moment.now) (λ _. reply.Gone)
+
+-- a look at a key's content, for which no remote was asked
+abbrev pub looks_at : {D L : Type 0} → ℕ → Key → Look → Moment → Ask D (GotOf L)
+looks_at caller key look moment = asks caller (call.Get key look moment remote.NotAsked) found_in
+
+-- The put of an upload that is ready. Its step rests on this: the repository may write to the upload's store, and size and digest are those
+-- of the file.
+abbrev pub puts : {D T S : Type 0} → Devices D T → (S → List ℕ) → Config → ℕ → Ready S → Moment → Ask D Asset
+puts on content config caller ready moment =
+    asks_to_store on caller (put_call (upload_of ready) moment) (λ asset. reply.Stored asset) ready.store
+    (MayGo config ready.begin.key ready.store × AreBytes (upload_of ready) (content ready.file))

@@ -1,0 +1,27 @@
+-- What a crash inside a call, or a refusal, leaves of a core.
+use Rattle.std.specs.Prelude.{◌≡◌, None, IsSome, Result, OnErr}
+use Rattle.repo_model.specs.declared.reply.Refusal.{Refusal}
+use Rattle.repo_model.specs.State.{State}
+use Rattle.repo_model.specs.Plain.{config_of}
+use Rattle.disk_model.specs.Moments.{During, EachImage}
+use Rattle.repo_core.specs.Asks.{Ask}
+use Rattle.repo_core.specs.Devices.{Devices}
+use Rattle.repo_core.specs.Parts.{Parts, AreUntouched}
+use Rattle.repo_core.specs.Standing.{Tracks, IsDurable}
+use Rattle.repo_core.specs.Stays.{BytesStay}
+use Rattle.repo_core.specs.View.{CoreView}
+
+-- the parts on which the work of a call goes
+abbrev pub parts_of : {D T : Type 0} → CoreView D T → Parts D T
+parts_of core = record { disk = core.disk; table = core.table; own = core.own }
+
+pub record Survives {D T A : Type 0} (on : Devices D T) (ask : Ask D A) (old new : CoreView D T) (result : Result A Refusal) : Type 0 where
+  -- At every moment each image that a crash may leave has contents that the call allows.
+  pub crash : on.told → IsSome (on.table new.table) → ask.premise → (s : State) → Tracks on.tree on.table old s → old.broken ≡ None → IsDurable on.tree on.clock on.lists old.disk
+      → During on.clock on.lists old.disk new.disk (EachImage (ask.leaves (config_of old.config) s))
+  -- A disk on which everything is settled is settled again, unless the core broke.
+  pub durable : on.told → new.broken ≡ None → IsDurable on.tree on.clock on.lists old.disk → IsDurable on.tree on.clock on.lists new.disk
+  -- The content of each blob that stood stays.
+  pub stays : on.told → new.broken ≡ None → BytesStay (on.tree old.disk) (on.tree new.disk)
+  -- A refusal that doesn't break the core leaves everything.
+  pub clean : new.broken ≡ None → OnErr result (AreUntouched on (parts_of old) (parts_of new))
