@@ -18,5 +18,8 @@ calls_of keeper = keeper.calls
 abbrev pub faults_of : MapKeeper → ℕ
 faults_of keeper = keeper.faults
 
+abbrev pub changes_of : MapKeeper → ℕ
+changes_of keeper = keeper.changes
+
 abbrev pub plan_in : MapKeeper → Plan
 plan_in keeper = record { failing = failing_of keeper; calls = calls_of keeper }

@@ -1,7 +1,7 @@
 ghost use Rattle.std.specs.Prelude.{◌≡◌, ◌≤◌, ℕ, Result, Option, Vec, is_some, IfOk, IsTrue, MatchResult};
 ghost use Rattle.std.specs.declared.alloc.Global.{Global};
 ghost use Rattle.std.specs.Option.{option_copied};
-ghost use Rattle.nx_io.specs.Causes.{Rose, HasCauseWhere};
+ghost use Rattle.nx_io.specs.Causes.{Rose, HasCauseWhere, MovesByOne, CountsWhere};
 ghost use Rattle.nx_base.specs.declared.key.Key.{Key};
 ghost use Rattle.nx_base.specs.declared.row.Row.{Row};
 ghost use Rattle.nx_base.specs.declared.asset.Asset.{Asset};
@@ -54,10 +54,11 @@ pub struct CheckedKeeper<S: RowStore + Drop> {
     store: S,
     faults: u64,
     found: bool,
+    changes: u64,
 }
 
 impl<S: RowStore + Drop> CheckedKeeper<S> {
-    ghost use Rattle.asset_keeper.specs.Checked.{store_of, count_of};
+    ghost use Rattle.asset_keeper.specs.Checked.{store_of, count_of, changes_of};
 
     /// A keeper over those rows, before its first call.
     pub fn new(store: S) -> CheckedKeeper<S>
@@ -68,15 +69,18 @@ impl<S: RowStore + Drop> CheckedKeeper<S> {
             store,
             faults: 0,
             found: false,
+            changes: 0,
         }
     }
 
     /// Counts a fault.
     fn fault(&mut self) -> KeepErr
         ensures failed { result ≡ KeepErr.Failed }
+        ensures counted { MovesByOne self.old.faults self.new.faults }
         ensures rose { Rose self.old.faults self.new.faults }
         ensures later { self.old.faults ≤ self.new.faults }
         ensures found { self.new.found ≡ self.old.found }
+        ensures changes { changes_of self.new ≡ changes_of self.old }
         ensures store { store_of self.new ≡ store_of self.old }
     {
         self.faults = self.faults.saturating_add(1);
@@ -86,9 +90,12 @@ impl<S: RowStore + Drop> CheckedKeeper<S> {
     /// What a refusal of the store is here.
     fn refusal(&mut self, why: KeepErr) -> KeepErr
         ensures same { result ≡ why }
+        ensures counted { result ≡ KeepErr.Failed → MovesByOne self.old.faults self.new.faults }
+        ensures quiet { result ≡ KeepErr.NoMemory → self.new.faults ≡ self.old.faults }
         ensures rose { result ≡ KeepErr.Failed → Rose self.old.faults self.new.faults }
         ensures later { self.old.faults ≤ self.new.faults }
         ensures found { self.new.found ≡ self.old.found }
+        ensures changes { changes_of self.new ≡ changes_of self.old }
         ensures store { store_of self.new ≡ store_of self.old }
     {
         match why {
@@ -100,13 +107,18 @@ impl<S: RowStore + Drop> CheckedKeeper<S> {
 
 impl<S: RowStore + Drop> Keeper for CheckedKeeper<S> {
     ghost use Rattle.std.specs.Prelude.{None};
-    ghost use Rattle.asset_keeper.specs.Checked.{store_of, count_of, found_of, HandsOn};
+    ghost use Rattle.asset_keeper.specs.Checked.{store_of, count_of, found_of, changes_of, HandsOn};
 
     ghost table = { λ _. None };
+
+    // It never tells.
+    ghost lasts = { Unit {0} };
 
     ghost faults = { count_of };
 
     ghost found = { found_of };
+
+    ghost changes = { changes_of };
 
     ghost plan = { λ _. None };
 
@@ -114,7 +126,9 @@ impl<S: RowStore + Drop> Keeper for CheckedKeeper<S> {
         ensures asked { (answer : Result (Option Asset) KeepErr) × S.gets (store_of self.old) key.now answer (store_of self.new) × HandsOn (λ asset. IsTrue (found_in_range asset)) answer result }
         ensures answer { MatchResult result (λ asset. found_of self.new ≡ is_some asset) (λ _. found_of self.new ≡ found_of self.old) }
         ensures range { IfOk result (λ asset. IsTrue (found_in_range asset)) }
+        ensures changes { changes_of self.new ≡ changes_of self.old }
         ensures cause { HasCauseWhere IsFault (count_of self.old) (count_of self.new) result }
+        ensures counts { CountsWhere IsFault (count_of self.old) (count_of self.new) result }
     {
         match self.store.get(key) {
             Ok(Some(asset)) if is_in_range(&asset) => {
@@ -133,8 +147,11 @@ impl<S: RowStore + Drop> Keeper for CheckedKeeper<S> {
     fn apply(&mut self, change: &Change) -> Result<(), KeepErr>
         ensures asked { S.applies (store_of self.old) change.now result (store_of self.new) }
         ensures answer { found_of self.new ≡ found_of self.old }
+        ensures changes { Rose (changes_of self.old) (changes_of self.new) }
         ensures cause { HasCauseWhere IsFault (count_of self.old) (count_of self.new) result }
+        ensures counts { CountsWhere IsFault (count_of self.old) (count_of self.new) result }
     {
+        self.changes = self.changes.saturating_add(1);
         match self.store.apply(change) {
             Ok(()) => Ok(()),
             Err(why) => Err(self.refusal(why)),
@@ -146,7 +163,9 @@ impl<S: RowStore + Drop> Keeper for CheckedKeeper<S> {
         ensures answer { found_of self.new ≡ found_of self.old }
         ensures shape { IfOk result (λ rows. IsPageAfter (option_copied after.entry) n rows.items) }
         ensures range { IfOk result (λ rows. IsTrue (rows_in_range rows.items)) }
+        ensures changes { changes_of self.new ≡ changes_of self.old }
         ensures cause { HasCauseWhere IsFault (count_of self.old) (count_of self.new) result }
+        ensures counts { CountsWhere IsFault (count_of self.old) (count_of self.new) result }
     {
         match self.store.page(after, n) {
             Ok(rows) => {
@@ -164,7 +183,9 @@ impl<S: RowStore + Drop> Keeper for CheckedKeeper<S> {
         ensures asked { (answer : Result Generation KeepErr) × S.numbers (store_of self.old) answer (store_of self.new) × HandsOn (λ g. IsTrue (generation_in_range g)) answer result }
         ensures answer { found_of self.new ≡ found_of self.old }
         ensures range { IfOk result (λ g. IsTrue (generation_in_range g)) }
+        ensures changes { changes_of self.new ≡ changes_of self.old }
         ensures cause { HasCauseWhere IsFault (count_of self.old) (count_of self.new) result }
+        ensures counts { CountsWhere IsFault (count_of self.old) (count_of self.new) result }
     {
         match self.store.generation() {
             Ok(generation) if may_be_time(generation.number) => Ok(generation),

@@ -6,12 +6,14 @@
 //!   one commit, and gives the rows in pages, in the byte order of repository and then path.
 //! - A keeper may tell contracts its table. [`MapKeeper`], in memory, does; [`CheckedKeeper`], over
 //!   rows that somebody else may write, doesn't, and takes every answer for a fault that no table
-//!   could give.
+//!   could give. Keepers of a type that `lasts` go on telling, once they tell.
 //!
 //! Each keeper has a count of faults. It never falls, and a call answers [`KeepErr::Failed`] only
 //! where it rose in that call. After `Failed` the table is the old or the new one; after
 //! [`KeepErr::NoMemory`] it is the old one. [`MapKeeper`] fails just the calls that are listed, without effect
-//! (`specs/Plan.antt`).
+//! (`specs/Plan.antt`). Both keepers here count their faults exactly, by one at each.
+//!
+//! Each keeper counts its changes: the calls of `apply`, whatever they answered.
 //!
 //! Stamps, times and the number of a generation are below 2^48, sizes below 2^63, whether a keeper
 //! tells or not.

@@ -22,17 +22,18 @@ pub struct MapKeeper {
     calls: u64,
     faults: u64,
     found: bool,
+    changes: u64,
     ghost in_range: { IsTrue (entries_in_range rows.entries) },
     ghost numbered: { IsTrue (generation_in_range generation) },
 }
 
 impl MapKeeper {
-    ghost use Rattle.std.specs.Prelude.{◌≡◌, ◌≤◌, ◌↔◌, ◌+◌, ◌-◌, ◌^◌, ℕ, min, [], false, List, map, IsTrue, IfOk, OnOk, OnErr, Contains};
+    ghost use Rattle.std.specs.Prelude.{◌≡◌, ◌≤◌, ◌↔◌, ◌+◌, ◌-◌, ◌^◌, ℕ, min, if◌then◌else◌, [], false, List, map, IsTrue, IfOk, OnOk, OnErr, Contains};
     ghost use Rattle.nx_io.specs.Causes.{Rose};
     ghost use Rattle.nx_base.specs.Order.{key_cmp};
     ghost use Rattle.asset_keeper.specs.Ranges.{rows_in_range};
     ghost use Rattle.asset_keeper.specs.Table.{table_made};
-    ghost use Rattle.asset_keeper.specs.Shelf.{table_in, calls_of, failing_of, faults_of};
+    ghost use Rattle.asset_keeper.specs.Shelf.{table_in, calls_of, failing_of, faults_of, changes_of};
 
     /// A keeper of those rows and that generation; of several rows with one key the last counts. It
     /// fails the calls whose numbers are listed, from 0 on.
@@ -58,6 +59,7 @@ impl MapKeeper {
             calls: 0,
             faults: 0,
             found: false,
+            changes: 0,
         })
     }
 
@@ -66,8 +68,10 @@ impl MapKeeper {
         ensures listed { IsTrue result ↔ Contains (failing_of self.old) (calls_of self.old) }
         ensures rose { IsTrue result → Rose (faults_of self.old) (faults_of self.new) }
         ensures later { faults_of self.old ≤ faults_of self.new }
+        ensures counted { faults_of self.new ≡ (if result then min (faults_of self.old + 1) (2 ^ 64 - 1) else faults_of self.old) }
         ensures table { table_in self.new ≡ table_in self.old }
         ensures found { self.new.found ≡ self.old.found }
+        ensures changes { changes_of self.new ≡ changes_of self.old }
         ensures calls { calls_of self.new ≡ min (calls_of self.old + 1) (2 ^ 64 - 1) }
         ensures failing { failing_of self.new ≡ failing_of self.old }
     {
@@ -83,13 +87,17 @@ impl MapKeeper {
 
 impl Keeper for MapKeeper {
     ghost use Rattle.std.specs.Prelude.{Some};
-    ghost use Rattle.asset_keeper.specs.Shelf.{table_in, faults_of, plan_in};
+    ghost use Rattle.asset_keeper.specs.Shelf.{table_in, faults_of, changes_of, plan_in};
 
     ghost table = { λ k. Some (table_in k) };
+
+    ghost lasts = { Unit {0} };
 
     ghost faults = { faults_of };
 
     ghost found = { λ k. k.found };
+
+    ghost changes = { changes_of };
 
     ghost plan = { λ k. Some (plan_in k) };
 
@@ -103,6 +111,7 @@ impl Keeper for MapKeeper {
     }
 
     fn apply(&mut self, change: &Change) -> Result<(), KeepErr> {
+        self.changes = self.changes.saturating_add(1);
         if self.fails() {
             return Err(KeepErr::Failed);
         }

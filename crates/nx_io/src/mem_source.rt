@@ -1,9 +1,9 @@
 ghost use Rattle.std.specs.Prelude.{◌≡◌, ℕ, ◌+◌, ◌-◌, ◌^◌, ◌<◌, ◌≤◌, ◌↔◌, min, List, length, take, drop, Some, IsErr, IfOk, Contains};
 ghost use Rattle.std.specs.Io.{ReadsAtMost};
 ghost use Rattle.std.specs.Io.KnownBytes.{ReadConsumes};
-ghost use Rattle.nx_io.specs.Causes.{HasCause};
+ghost use Rattle.nx_io.specs.Causes.{HasCause, Counts};
 ghost use Rattle.nx_io.specs.Reads.{TellsEnd};
-ghost use Rattle.nx_io.specs.Feed.{Feed, feed};
+ghost use Rattle.nx_io.specs.Feed.{Feed, feed, FeedPlan, plan_of};
 
 use crate::failure::Failed;
 use crate::source::Source;
@@ -54,18 +54,22 @@ impl Source for MemSource {
 
     ghost ended = { λ s. s.ended };
 
+    ghost Kept = { FeedPlan };
+
+    ghost kept = { plan_of };
+
     fn read(&mut self, buf: &mut [u8]) -> Result<usize, Failed>
         ensures bound { ReadsAtMost result buf.new }
         ensures bytes { ReadConsumes (Some self.old.rest) (Some self.new.rest) result buf.new }
         ensures end { TellsEnd self.old.ended self.new.ended result buf.new }
         ensures cause { HasCause self.old.faults self.new.faults result }
+        ensures kept { plan_of self.new ≡ plan_of self.old }
+        ensures counts { Counts self.old.faults self.new.faults result }
 
         // Exactly the listed calls fail.
         ensures listed { IsErr result ↔ Contains self.old.failing self.old.calls }
         ensures size { IfOk result (λ n. n ≡ min (min self.old.piece (length buf.old)) (length self.old.rest)) }
         ensures calls { self.new.calls ≡ min (self.old.calls + 1) (2 ^ 64 - 1) }
-        ensures failing { self.new.failing ≡ self.old.failing }
-        ensures piece { self.new.piece ≡ self.old.piece }
     {
         let call = self.calls;
         self.calls = self.calls.saturating_add(1);

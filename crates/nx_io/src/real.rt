@@ -1,4 +1,9 @@
 ghost use Rattle.std.specs.Prelude.{◌≡◌, ℕ, false};
+ghost use Rattle.std.specs.Io.{ReadsAtMost, WritesAtMost};
+ghost use Rattle.std.specs.Io.KnownBytes.{ReadConsumes, WriteAppends};
+ghost use Rattle.nx_io.specs.Causes.{HasCause, Counts};
+ghost use Rattle.nx_io.specs.Reads.{TellsEnd};
+ghost use Rattle.nx_io.specs.Writes.{TakesSome};
 ghost use Rattle.nx_io.specs.Real.{Reading, Writing};
 
 use crate::failure::Failed;
@@ -40,7 +45,18 @@ impl<R: Read> Source for RealSource<R> {
 
     ghost ended = { λ s. s.ended };
 
-    fn read(&mut self, buf: &mut [u8]) -> Result<usize, Failed> {
+    // Nothing is known of what a reader keeps.
+    ghost Kept = { Unit {0} };
+
+    ghost kept = { λ _. tt };
+
+    fn read(&mut self, buf: &mut [u8]) -> Result<usize, Failed>
+        ensures bound { ReadsAtMost result buf.new }
+        ensures bytes { ReadConsumes (R.remaining self.old.reader) (R.remaining self.new.reader) result buf.new }
+        ensures end { TellsEnd self.old.ended self.new.ended result buf.new }
+        ensures cause { HasCause self.old.faults self.new.faults result }
+        ensures counts { Counts self.old.faults self.new.faults result }
+    {
         match self.reader.read(buf) {
             Ok(count) => {
                 if !buf.is_empty() {
@@ -83,7 +99,18 @@ impl<W: Write> Sink for RealSink<W> {
 
     ghost faults = { λ s. s.faults };
 
-    fn write(&mut self, bytes: &[u8]) -> Result<usize, Failed> {
+    // Nothing is known of what a writer keeps.
+    ghost Kept = { Unit {0} };
+
+    ghost kept = { λ _. tt };
+
+    fn write(&mut self, bytes: &[u8]) -> Result<usize, Failed>
+        ensures bound { WritesAtMost result bytes.now }
+        ensures some { TakesSome result bytes.now }
+        ensures bytes { WriteAppends (W.contents self.old.writer) (W.contents self.new.writer) result bytes.now }
+        ensures cause { HasCause self.old.faults self.new.faults result }
+        ensures counts { Counts self.old.faults self.new.faults result }
+    {
         match self.writer.write(bytes) {
             Ok(count) if count > 0 || bytes.is_empty() => Ok(count),
             _ => {
