@@ -23,3 +23,4 @@ pub mod Tellings
 pub mod Stays
 pub mod Breaks
 pub mod Choices
+pub mod GivenUp

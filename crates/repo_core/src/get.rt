@@ -23,7 +23,7 @@ ghost use Rattle.repo_core.specs.Looking.{found_in, HoldsAfter};
 use crate::end::{answer_of, cause_of};
 use crate::getting::give;
 use crate::repository::Core;
-use crate::telling::{look_entry, tell};
+use crate::telling::{Told, look_entry, tell};
 use asset_keeper::Keeper;
 use blob_files::Download;
 use disk_model::Disk;
@@ -113,9 +113,9 @@ impl<D: Disk, T: Keeper> Core<D, T> {
             &moment,
         );
         self.broken = cause_of(number, &done);
-        let told = tell(&mut self.holds, caller, number, answer_of(done));
+        let Told { reply, answer } = tell(&mut self.holds, caller, number, answer_of(done));
         self.journal
-            .push(look_entry(caller, key, look, moment, told.reply));
-        told.answer
+            .push(look_entry(caller, key, look, moment, reply));
+        answer
     }
 }

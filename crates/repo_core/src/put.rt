@@ -80,19 +80,25 @@ impl<D: Disk, T: Keeper> Core<D, T> {
         ensures broke_keeper { (cause : Cause) → self.old.broken ≡ None → self.new.broken ≡ Some cause → cause.fault ≡ fault.Keeper → Rose (T.faults self.old.table) (T.faults self.new.table) }
         ensures number { (cause : Cause) → self.old.broken ≡ None → self.new.broken ≡ Some cause → cause.entry ≡ length self.old.journal.entries }
     {
+        let Ready {
+            file,
+            begin,
+            store,
+            size,
+            sha1,
+        } = ready;
         if self.journal.is_full() {
-            self.disk.discard(ready.file);
+            self.disk.discard(file);
             return Err(Refusal::JournalFull);
         }
-        let sha1 = ready.sha1;
         let upload = Upload {
-            key: ready.begin.key,
-            content_type: ready.begin.content_type,
-            size: ready.size,
+            key: begin.key,
+            content_type: begin.content_type,
+            size,
             sha1,
         };
         if let Some(cause) = self.broken {
-            self.disk.discard(ready.file);
+            self.disk.discard(file);
             let reply = Reply::Refused(Refusal::Broken { cause });
             self.journal.push(put(caller, upload, moment, reply));
             return Err(Refusal::Broken { cause });
@@ -103,9 +109,9 @@ impl<D: Disk, T: Keeper> Core<D, T> {
             &mut self.table,
             &self.config,
             &mut self.own,
-            ready.file,
+            file,
             &upload,
-            &ready.store,
+            &store,
             &moment,
         );
         self.broken = cause_of(self.journal.len(), &done);
