@@ -10,8 +10,8 @@ use crate::asking::{begin_upload, end_upload, remove};
 use crate::downloads::{give, let_go};
 use crate::draws::Draws;
 use crate::looks::looked;
-use crate::open_upload::OpenUpload;
-use crate::puts::{finish, stop_upload};
+use crate::open_upload::{OpenUpload, keep};
+use crate::puts::{finish, stop_open, stop_upload};
 use crate::writing::write;
 use asset_keeper::Keeper;
 use blob_files::Download;
@@ -25,8 +25,7 @@ use session_driver::Repository;
 use std::alloc::Global;
 
 /// A core that makes the calls of one session, with the moments that it draws: one for each request.
-#[derive(Drop)]
-pub struct Answering<D: Disk, T: Keeper, W: Drop, R: Drop> {
+pub struct Answering<D: Disk, T: Keeper, W, R> {
     pub alloc: Global,
     pub core: Core<D, T>,
     pub draws: Draws,
@@ -62,9 +61,10 @@ impl<D: Disk, T: Keeper> Repository for Answering<D, T, D::Writer, D::Reader> {
             content_type: begin.content_type,
             kind: Kind::Put,
         };
+        stop_open(&mut self.core, self.upload.take());
         match begin_upload(&mut self.core, begin) {
             Ok(upload) => {
-                self.upload = Some(OpenUpload { upload });
+                keep(&mut self.upload, Some(OpenUpload { upload }));
                 Ok(Reply::Begun { store })
             }
             Err(refusal) => {
@@ -78,10 +78,11 @@ impl<D: Disk, T: Keeper> Repository for Answering<D, T, D::Writer, D::Reader> {
         let Some(open) = self.upload.take() else {
             return Err(UploadErr::NoMemory);
         };
-        let mut upload = open.upload;
+        let OpenUpload { upload } = open;
+        let mut upload = upload;
         match upload.write(part) {
             Ok(()) => {
-                self.upload = Some(OpenUpload { upload });
+                keep(&mut self.upload, Some(OpenUpload { upload }));
                 Ok(())
             }
             Err(why) => {
@@ -101,15 +102,15 @@ impl<D: Disk, T: Keeper> Repository for Answering<D, T, D::Writer, D::Reader> {
 
     fn abort(&mut self) {
         self.draws.draw();
-        if let Some(open) = self.upload.take() {
-            end_upload(&mut self.core, open.upload);
+        if let Some(OpenUpload { upload }) = self.upload.take() {
+            end_upload(&mut self.core, upload);
         }
     }
 
     fn cut(&mut self) {
         self.draws.draw();
-        if let Some(open) = self.upload.take() {
-            end_upload(&mut self.core, open.upload);
+        if let Some(OpenUpload { upload }) = self.upload.take() {
+            end_upload(&mut self.core, upload);
         }
     }
 
@@ -118,7 +119,7 @@ impl<D: Disk, T: Keeper> Repository for Answering<D, T, D::Writer, D::Reader> {
         let moment = self.draws.draw();
         let got = asking::look(&mut self.core, key, look, moment);
         let (said, found) = looked(got);
-        self.found = found;
+        keep(&mut self.found, found);
         said
     }
 
