@@ -1,5 +1,5 @@
-ghost use Rattle.std.specs.Prelude.{◌≡◌, ◌∷◌, [], OnOk, Some, None};
-ghost use Rattle.nx_io.specs.Causes.{HasCauseWhere};
+ghost use Rattle.std.specs.Prelude.{◌≡◌, ◌≤◌, ◌∷◌, [], OnOk, Some, None};
+ghost use Rattle.nx_io.specs.Causes.{Rose, HasCauseWhere};
 ghost use Rattle.disk_model.specs.Disk.{IsFault, Outside};
 ghost use Rattle.disk_model.specs.Moments.{During, Settled, EachImage};
 ghost use Rattle.nx_base.specs.declared.blob_ref.BlobRef.{BlobRef};
@@ -25,6 +25,8 @@ fn put_both<D: Disk>(
     ensures bytes_settled { D.told → OnOk result (D.lists disk.new (D.clock disk.new) (bytes_at files.now.place) ≡ Some (D.Writer.content file) ∷ []) }
     ensures props_settled { D.told → OnOk result (D.lists disk.new (D.clock disk.new) (props_at files.now.place) ≡ Some props.now ∷ []) }
     ensures cause { HasCauseWhere IsFault (D.faults disk.old) (D.faults disk.new) result }
+    ensures shown { Rose (D.shown disk.old) (D.shown disk.new) }
+    ensures forward { D.shown disk.old ≤ D.shown disk.new }
     ensures look { D.last_look disk.new ≡ D.last_look disk.old }
     ensures any_moment { D.told → During D.clock D.lists disk.old disk.new
         (Creates files.now.place (D.Writer.content file) props.now (D.lists disk.old (D.clock disk.old))) }
@@ -49,6 +51,8 @@ pub fn create<D: Disk>(
     ensures bytes_settled { D.told → OnOk result (D.lists disk.new (D.clock disk.new) (bytes_at files.now.place) ≡ Some (D.Writer.content file) ∷ []) }
     ensures props_settled { D.told → OnOk result (D.lists disk.new (D.clock disk.new) (props_at files.now.place) ≡ Some props.now ∷ []) }
     ensures cause { HasCauseWhere IsFault (D.faults disk.old) (D.faults disk.new) result }
+    ensures shown { Rose (D.shown disk.old) (D.shown disk.new) }
+    ensures forward { D.shown disk.old ≤ D.shown disk.new }
     ensures look { D.last_look disk.new ≡ D.last_look disk.old }
     // At every moment the new properties may be left only where the whole bytes are, and other names are as they were.
     ensures any_moment { D.told → During D.clock D.lists disk.old disk.new

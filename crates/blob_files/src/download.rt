@@ -1,11 +1,12 @@
-ghost use Rattle.std.specs.Prelude.{◌≡◌, ◌<◌, ◌+◌, ◌-◌, ◌≤◌, ◌⊎◌, ◌↔◌, ℕ, List, [], ◌++◌, length, take, drop, true, IfOk, IfErr, OnErr};
+ghost use Rattle.std.specs.Prelude.{◌≡◌, ◌<◌, ◌+◌, ◌-◌, ◌≤◌, ◌⊎◌, ◌↔◌, ℕ, List, [], ◌++◌, length, take, drop, true, IfOk, IfErr, OnErr, IsErrOf};
 ghost use Rattle.nx_io.specs.Causes.{HasCauseWhere};
+ghost use Rattle.repo_model.specs.declared.transfer.DownloadErr.TheVariants as refused;
 
 use disk_model::Reader;
 use repo_model::DownloadErr;
 
-/// The bytes of a blob on their way out: as many as its asset has.
-#[derive(Drop)]
+/// The bytes of a blob on their way out: as many as its asset has. It can't be dropped, since it owns its reader, which
+/// `into_reader` gives for the disk to take back.
 pub struct Download<R> {
     reader: R,
     /// How many bytes the asset has.
@@ -47,6 +48,7 @@ impl<R: Reader> Download<R> {
         ensures short { IfErr result (IsShortAt (R.ended self.new.reader) self.old.given self.old.size) }
         ensures never_short { R.told → IsWhole R.left self.old → IfErr result IsFault }
         ensures cause { HasCauseWhere IsFault (R.faults self.old.reader) (R.faults self.new.reader) result }
+        ensures quiet { ¬ (IsErrOf result refused.DiskFault) → R.faults self.new.reader ≡ R.faults self.old.reader }
     {
         let left = self.size - self.given;
         if left == 0 || buf.is_empty() {
@@ -67,6 +69,11 @@ impl<R: Reader> Download<R> {
     pub fn into_reader(self) -> R
         ensures { result ≡ self.reader }
     {
-        self.reader
+        let Download {
+            reader,
+            size: _,
+            given: _,
+        } = self;
+        reader
     }
 }

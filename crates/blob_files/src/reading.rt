@@ -23,6 +23,7 @@ pub fn read_props<D: Disk>(
     ensures time { D.told → Ticks (D.clock disk.old) (D.clock disk.new) (D.lists disk.old) (D.lists disk.new) }
     // Where nothing is told too, a file is there exactly where the disk said so.
     ensures look { IfOk result (λ found. is_some found ≡ is_some (D.last_look disk.new)) }
+    ensures shown { D.shown disk.new ≡ D.shown disk.old }
 {
     let Some(text) = disk.read_small(files.properties())? else {
         return Ok(None);
@@ -42,6 +43,7 @@ pub fn open_bytes<D: Disk>(disk: &mut D, files: &BlobFiles) -> Result<Option<D::
     ensures cause { HasCauseWhere IsFault (D.faults disk.old) (D.faults disk.new) result }
     ensures crash { D.told → D.lists disk.new (D.clock disk.new) ≡ D.lists disk.old (D.clock disk.old) }
     ensures time { D.told → Ticks (D.clock disk.old) (D.clock disk.new) (D.lists disk.old) (D.lists disk.new) }
+    ensures shown { D.shown disk.new ≡ D.shown disk.old }
     ensures look { MatchResult result (λ found. D.last_look disk.new ≡ option_map (λ r. D.Reader.size r) found) (λ _. D.last_look disk.new ≡ D.last_look disk.old) }
 {
     disk.open_file(files.bytes())

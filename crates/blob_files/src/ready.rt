@@ -1,9 +1,9 @@
 use nx_base::StoreName;
 use repo_model::Begin;
 
-/// A content that came whole: a sealed file that nothing can change any more.
-#[derive(Drop)]
-pub struct Ready<S: Drop> {
+/// A content that came whole: a sealed file that nothing can change any more. It can't be dropped, since it owns the file,
+/// which the disk installs or discards.
+pub struct Ready<S> {
     pub file: S,
     pub begin: Begin,
     pub store: StoreName,

@@ -1,5 +1,5 @@
 //! Worked blobs over the disk in memory, with ample memory.
-use crate::{Download, Upload, create, erase, open_bytes, read_props};
+use crate::{Download, Ready, Upload, create, erase, open_bytes, read_props};
 use blob_paths::BlobFiles;
 use blob_properties::PropsRead;
 use disk_model::{Disk, MemDisk};
@@ -45,10 +45,13 @@ fn disk(alloc: Global, stop_after: Option<u64>) -> Result<MemDisk, Fail> {
 
 /// Uploads `ab` and `c`, and makes the blob of it. The first refusal is told by name.
 fn stored(alloc: Global, disk: &mut MemDisk) -> Result<Option<&'static str>, Fail> {
+    let begin = begin(alloc)?;
+    let store = StoreName::parse(alloc, b"default")?;
+    let files = files(alloc)?;
     let Ok(writer) = disk.temp() else {
         return Ok(Some("temp"));
     };
-    let mut upload = Upload::new(begin(alloc)?, StoreName::parse(alloc, b"default")?, writer);
+    let mut upload = Upload::new(begin, store, writer);
     if upload.write(b"ab").is_err() || upload.write(b"c").is_err() {
         disk.give_up(upload.into_writer());
         return Ok(Some("write"));
@@ -58,10 +61,18 @@ fn stored(alloc: Global, disk: &mut MemDisk) -> Result<Option<&'static str>, Fai
         return Ok(Some("seal"));
     };
     upload.abort();
-    if ready.size != 3 || ready.sha1 != DIGEST {
+    let Ready {
+        file,
+        begin: _,
+        store: _,
+        size,
+        sha1,
+    } = ready;
+    if size != 3 || sha1 != DIGEST {
+        disk.discard(file);
         return Ok(Some("digest"));
     }
-    match create(disk, ready.file, &files(alloc)?, PROPS) {
+    match create(disk, file, &files, PROPS) {
         Ok(()) => Ok(None),
         Err(_) => Ok(Some("create")),
     }
@@ -107,13 +118,15 @@ fn a_file_that_is_too_short(rt: HostRuntime) -> Result<(), Fail> {
     let alloc = rt.alloc();
     let mut disk = disk(alloc, None)?;
     assert_eq!(rt; stored(alloc, &mut disk)?, None);
-    let Ok(Some(reader)) = open_bytes(&mut disk, &files(alloc)?) else {
+    let files = files(alloc)?;
+    let Ok(Some(reader)) = open_bytes(&mut disk, &files) else {
         return Err("no bytes")?;
     };
     let mut download = Download::new(reader, 4);
     let mut room = [0_u8; 8];
     assert_eq!(rt; download.read(&mut room), Ok(3));
     assert_eq!(rt; download.read(&mut room), Err(DownloadErr::Short { at: 3 }));
+    disk.end_reader(download.into_reader());
     Ok(())
 }
 
@@ -139,13 +152,30 @@ fn an_upload_that_is_dead(rt: HostRuntime) -> Result<(), Fail> {
     let mut writes = Vec::new(alloc);
     writes.push((0, 0))?;
     disk.fail_parts(writes, Vec::new(alloc));
+    let begin = begin(alloc)?;
+    let store = StoreName::parse(alloc, b"default")?;
     let Ok(writer) = disk.temp() else {
         return Err("no writer")?;
     };
-    let mut upload = Upload::new(begin(alloc)?, StoreName::parse(alloc, b"default")?, writer);
+    let mut upload = Upload::new(begin, store, writer);
     assert_eq!(rt; upload.write(b"ab"), Err(UploadErr::DiskFault));
     assert_eq!(rt; upload.write(b"c"), Err(UploadErr::Dead));
-    assert_eq!(rt; upload.seal().err(), Some(UploadErr::Dead));
+    match upload.seal() {
+        Err(why) => assert_eq!(rt; why, UploadErr::Dead),
+        Ok(ready) => {
+            let Ready {
+                file,
+                begin: _,
+                store: _,
+                size: _,
+                sha1: _,
+            } = ready;
+            disk.discard(file);
+            upload.abort();
+            return Err("sealed")?;
+        }
+    }
+    disk.give_up(upload.into_writer());
     Ok(())
 }
 

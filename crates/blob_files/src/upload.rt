@@ -16,8 +16,8 @@ pub struct Target {
     pub store: StoreName,
 }
 
-/// A content on its way into a temporary file of its own. After a fault of the disk it is dead: each later call says so.
-#[derive(Drop)]
+/// A content on its way into a temporary file of its own. After a fault of the disk it is dead: each later call says so. It
+/// can't be dropped, since it owns its writer: `into_writer` gives it for the disk to take back, and `abort` ends it.
 pub struct Upload<W> {
     /// None once it was sealed.
     target: Option<Target>,
@@ -57,6 +57,7 @@ impl<W: Writer> Upload<W> {
         // Want of memory leaves what was taken.
         ensures no_memory { IsErrOf result refused.NoMemory → (bytes : List ℕ) → HasTaken W.told W.written self.old bytes → HasTaken W.told W.written self.new bytes }
         ensures cause { HasCauseWhere IsFault (W.faults self.old.writer) (W.faults self.new.writer) result }
+        ensures quiet { ¬ (IsErrOf result refused.DiskFault) → W.faults self.new.writer ≡ W.faults self.old.writer }
         ensures died { (self.new.dead ≡ true) ↔ ((self.old.dead ≡ true) ⊎ IsErrOf result refused.DiskFault) }
         ensures target { self.new.target ≡ self.old.target }
     {
@@ -92,6 +93,7 @@ impl<W: Writer> Upload<W> {
         ensures fits { ¬ (IsErrOf result refused.BodyTooLarge) }
         ensures no_memory { IsErrOf result refused.NoMemory → (bytes : List ℕ) → HasTaken W.told W.written self.old bytes → HasTaken W.told W.written self.new bytes }
         ensures cause { HasCauseWhere IsFault (W.faults self.old.writer) (W.faults self.new.writer) result }
+        ensures quiet { ¬ (IsErrOf result refused.DiskFault) → W.faults self.new.writer ≡ W.faults self.old.writer }
         ensures died { (self.new.dead ≡ true) ↔ ((self.old.dead ≡ true) ⊎ IsErrOf result refused.DiskFault) }
         ensures open { IfErr result (λ why. self.new.target ≡ self.old.target) }
     {
@@ -123,11 +125,17 @@ impl<W: Writer> Upload<W> {
     pub fn into_writer(self) -> W
         ensures { result ≡ self.writer }
     {
-        self.writer
+        let Upload {
+            target: _,
+            writer,
+            taken: _,
+            dead: _,
+        } = self;
+        writer
     }
 
-    /// Lets the file go.
+    /// Ends its writer without the disk: of an upload whose file is sealed, or that nobody wants any more.
     pub fn abort(self) {
-        self.writer.abort();
+        self.into_writer().abort();
     }
 }

@@ -21,6 +21,9 @@ faults_in disk = disk.faults
 abbrev pub look_in : MemDisk → Option ℕ
 look_in disk = disk.looked
 
+abbrev pub shown_in : MemDisk → ℕ
+shown_in disk = disk.shown
+
 abbrev pub plan_in : MemDisk → Plan
 plan_in disk = record {
   failing = disk.failing.items;

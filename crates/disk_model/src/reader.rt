@@ -1,12 +1,13 @@
-ghost use Rattle.std.specs.Prelude.{◌≡◌, ◌<◌, ◌≤◌, ◌++◌, ℕ, Bool, List, [], Option, length, take, drop, IfOk, OnErr};
-ghost use Rattle.nx_io.specs.Causes.{HasCause};
+ghost use Rattle.std.specs.Prelude.{◌≡◌, ◌<◌, ◌≤◌, ◌++◌, ℕ, Bool, List, [], Option, length, take, drop, IfOk, OnOk, OnErr, IsSome};
+ghost use Rattle.nx_io.specs.Causes.{HasCause, Counts};
 ghost use Rattle.nx_io.specs.Reads.{TellsEnd};
 ghost use Rattle.disk_model.specs.Plan.{PartPlan, ReadsByPlan};
 
 use nx_io::Failed;
 
-/// A file that is being read. It belongs to its owner, and its calls don't move the clock of the disk.
-pub trait Reader: Drop {
+/// A file that is being read. It belongs to its owner, and its calls don't move the clock of the disk. It can't be dropped:
+/// [`Disk::end_reader`](crate::Disk::end_reader) takes it back with its faults.
+pub trait Reader {
     /// Whether contracts know what files hold.
     ghost told: { Type 0 };
 
@@ -19,7 +20,7 @@ pub trait Reader: Drop {
     /// Whether its last answer was the end of the file, also where the bytes aren't told.
     ghost ended: { Self → Bool };
 
-    /// How often it failed.
+    /// How often it failed. Only a failure moves the count; where failures are planned, by exactly one.
     ghost faults: { Self → ℕ };
 
     /// Which of its calls of `read` are to fail, where that is known.
@@ -35,6 +36,8 @@ pub trait Reader: Drop {
         ensures end { TellsEnd (ended self.old) (ended self.new) result buf.new }
         ensures size { size self.new ≡ size self.old }
         ensures cause { HasCause (faults self.old) (faults self.new) result }
+        ensures quiet { OnOk result (faults self.new ≡ faults self.old) }
+        ensures counts { IsSome (plan self.old) → Counts (faults self.old) (faults self.new) result }
         ensures plan { ReadsByPlan (plan self.old) (plan self.new) result };
 
     fn len(&self) -> u64

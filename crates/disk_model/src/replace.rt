@@ -1,6 +1,6 @@
 //! Files that are written whole and shown at once. What stages a file and what shows it are two calls.
-ghost use Rattle.std.specs.Prelude.{◌≡◌, ◌⊎◌, ◌↔◌, ◌∷◌, [], IfOk, OnOk, OnErr, IsTrue, IsSome, Some, None};
-ghost use Rattle.nx_io.specs.Causes.{HasCauseWhere};
+ghost use Rattle.std.specs.Prelude.{◌≡◌, ◌≤◌, ◌⊎◌, ◌↔◌, ◌∷◌, [], IfOk, OnOk, OnErr, IsTrue, IsSome, Some, None};
+ghost use Rattle.nx_io.specs.Causes.{Rose, HasCauseWhere};
 ghost use Rattle.disk_model.specs.Disk.{Outside, Same, Rest, IsFault};
 ghost use Rattle.disk_model.specs.Moments.{During, MayPut};
 
@@ -14,6 +14,7 @@ pub fn write_whole<D: Disk>(disk: &mut D, bytes: &[u8]) -> Result<D::Sealed, Dis
     ensures content { D.told → IfOk result (λ file. D.Writer.content file ≡ bytes.now) }
     ensures tree { D.told → Same (D.tree disk.old) (D.tree disk.new) }
     ensures cause { HasCauseWhere IsFault (D.faults disk.old) (D.faults disk.new) result }
+    ensures shown { D.shown disk.new ≡ D.shown disk.old }
     ensures look { D.last_look disk.new ≡ D.last_look disk.old }
 
     // At every moment the lists outside tmp are those of the beginning.
@@ -43,6 +44,8 @@ pub fn put_sealed<D: Disk>(disk: &mut D, file: D::Sealed, name: &Name) -> Result
     ensures rest { D.told → Rest name.now (D.tree disk.old) (D.tree disk.new) }
     ensures settled { D.told → OnOk result (D.lists disk.new (D.clock disk.new) name.now ≡ Some (D.Writer.content file) ∷ []) }
     ensures cause { HasCauseWhere IsFault (D.faults disk.old) (D.faults disk.new) result }
+    ensures shown { Rose (D.shown disk.old) (D.shown disk.new) }
+    ensures forward { D.shown disk.old ≤ D.shown disk.new }
     ensures look { D.last_look disk.new ≡ D.last_look disk.old }
 
     // At every moment the name's list has at most the new value more, and the other lists are those of the beginning.
@@ -60,6 +63,8 @@ pub fn remove_settled<D: Disk>(disk: &mut D, name: &Name) -> Result<bool, DiskEr
     ensures rest { D.told → Rest name.now (D.tree disk.old) (D.tree disk.new) }
     ensures settled { D.told → OnOk result (D.lists disk.new (D.clock disk.new) name.now ≡ None ∷ []) }
     ensures cause { HasCauseWhere IsFault (D.faults disk.old) (D.faults disk.new) result }
+    ensures shown { Rose (D.shown disk.old) (D.shown disk.new) }
+    ensures forward { D.shown disk.old ≤ D.shown disk.new }
     ensures look { D.last_look disk.new ≡ D.last_look disk.old }
 
     // At every moment the name's list has at most "absent" more, and the other lists are those of the beginning.
@@ -78,6 +83,8 @@ pub fn replace_small<D: Disk>(disk: &mut D, name: &Name, bytes: &[u8]) -> Result
     ensures rest { D.told → Rest name.now (D.tree disk.old) (D.tree disk.new) }
     ensures settled { D.told → OnOk result (D.lists disk.new (D.clock disk.new) name.now ≡ Some bytes.now ∷ []) }
     ensures cause { HasCauseWhere IsFault (D.faults disk.old) (D.faults disk.new) result }
+    ensures shown { OnOk result (Rose (D.shown disk.old) (D.shown disk.new)) }
+    ensures forward { D.shown disk.old ≤ D.shown disk.new }
     ensures look { D.last_look disk.new ≡ D.last_look disk.old }
 
     // At every moment the name's list has at most the new bytes more, and the other lists are those of the beginning.

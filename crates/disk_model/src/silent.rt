@@ -1,5 +1,7 @@
 //! A disk that tells nothing, as the adapter of a real folder does: it shows that the traits can be met without knowing
 //! what the files hold.
+ghost use Rattle.std.specs.Prelude.{◌≡◌};
+
 use crate::disk::Disk;
 use crate::disk_err::DiskErr;
 use crate::memory::count::{one_more, with_part};
@@ -14,13 +16,27 @@ pub struct SilentDisk {
     pub alloc: Global,
     pub faults: u64,
     pub looked: Option<u64>,
+    pub shown: u64,
 }
 
-#[derive(Drop)]
 pub struct SilentPart {
     pub faults: u64,
     pub len: u64,
     pub ended: bool,
+}
+
+impl SilentPart {
+    /// How often it failed. It ends the part.
+    fn into_faults(self) -> u64
+        ensures { result ≡ self.faults }
+    {
+        let SilentPart {
+            faults,
+            len: _,
+            ended: _,
+        } = self;
+        faults
+    }
 }
 
 impl Writer for SilentPart {
@@ -54,7 +70,9 @@ impl Writer for SilentPart {
         })
     }
 
-    fn abort(self) {}
+    fn abort(self) {
+        let _faults = self.into_faults();
+    }
 }
 
 impl Reader for SilentPart {
@@ -109,6 +127,8 @@ impl Disk for SilentDisk {
 
     ghost last_look = { λ d. d.looked };
 
+    ghost shown = { λ d. d.shown };
+
     ghost writers_tell = { λ told. told };
 
     ghost readers_tell = { λ told. told };
@@ -123,18 +143,22 @@ impl Disk for SilentDisk {
         })
     }
 
-    fn install(&mut self, _file: SilentPart, _name: &Name) -> Result<(), DiskErr> {
+    fn install(&mut self, file: SilentPart, _name: &Name) -> Result<(), DiskErr> {
+        let _faults = file.into_faults();
+        self.shown = one_more(self.shown);
         Ok(())
     }
 
-    fn discard(&mut self, _file: SilentPart) {}
+    fn discard(&mut self, file: SilentPart) {
+        let _faults = file.into_faults();
+    }
 
     fn give_up(&mut self, file: SilentPart) {
-        self.faults = with_part(self.faults, file.faults);
+        self.faults = with_part(self.faults, file.into_faults());
     }
 
     fn end_reader(&mut self, file: SilentPart) {
-        self.faults = with_part(self.faults, file.faults);
+        self.faults = with_part(self.faults, file.into_faults());
     }
 
     fn sync(&mut self, _name: &Name) -> Result<(), DiskErr> {
@@ -143,6 +167,7 @@ impl Disk for SilentDisk {
     }
 
     fn remove(&mut self, _name: &Name) -> Result<bool, DiskErr> {
+        self.shown = one_more(self.shown);
         Ok(true)
     }
 

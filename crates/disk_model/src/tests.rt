@@ -162,7 +162,14 @@ fn failing_reads(rt: HostRuntime) -> Result<(), Stop> {
     disk.fail_parts(Vec::new(alloc), reads);
     let mut buf = [0u8; 2];
     for second in [Ok(1), Err(Failed), Ok(1)] {
-        assert!(rt; matches!(disk.open_file(&b), Ok(None)));
+        match disk.open_file(&b) {
+            Ok(None) => {}
+            Ok(Some(reader)) => {
+                disk.end_reader(reader);
+                return Err(Stop::Test);
+            }
+            Err(_) => return Err(Stop::Test),
+        }
         let Ok(Some(mut reader)) = disk.open_file(&a) else {
             return Err(Stop::Test);
         };
@@ -261,6 +268,7 @@ fn a_disk_that_tells_nothing(rt: HostRuntime) -> Result<(), Stop> {
         alloc,
         faults: 0,
         looked: None,
+        shown: 0,
     };
     assert_eq!(rt; replace_small(&mut disk, &a, b"x"), Err(DiskErr::Failed));
     assert_eq!(rt; disk.faults, 1);
@@ -282,10 +290,10 @@ fn disks_may_go_to_other_threads(rt: HostRuntime) -> Result<(), Stop> {
     let Ok(writer) = disk.temp() else {
         return Err(Stop::Test);
     };
+    disk.give_up(needs_send(writer));
     let Ok(Some(reader)) = disk.open_file(&a) else {
         return Err(Stop::Test);
     };
-    disk.give_up(needs_send(writer));
     disk.end_reader(needs_send(reader));
     let Ok(sealed) = write_whole(&mut disk, b"x") else {
         return Err(Stop::Test);

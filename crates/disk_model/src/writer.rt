@@ -1,14 +1,15 @@
-ghost use Rattle.std.specs.Prelude.{◌≡◌, ◌++◌, ℕ, List, Option, IfOk, OnOk, IsErrOf};
-ghost use Rattle.nx_io.specs.Causes.{HasCauseWhere};
-ghost use Rattle.disk_model.specs.Disk.{IsFault};
+ghost use Rattle.std.specs.Prelude.{◌≡◌, ◌++◌, ℕ, List, Option, IfOk, OnOk, IsErrOf, IsSome};
+ghost use Rattle.nx_io.specs.Causes.{HasCauseWhere, CountsWhere};
+ghost use Rattle.disk_model.specs.Disk.{IsFault, After};
 ghost use Rattle.disk_model.specs.declared.disk_err.DiskErr.TheVariants as refused;
 ghost use Rattle.disk_model.specs.Plan.{PartPlan, WritesByPlan};
 
 use crate::disk_err::DiskErr;
 
-/// A temporary file that is being written. It belongs to its owner, and its calls don't move the clock of the disk.
-pub trait Writer: Drop {
-    type Sealed: Drop;
+/// A temporary file that is being written. It belongs to its owner, and its calls don't move the clock of the disk. It can't
+/// be dropped: [`Disk::give_up`](crate::Disk::give_up) takes it back with its faults, or `abort` ends it.
+pub trait Writer {
+    type Sealed;
 
     /// Whether contracts know what files hold.
     ghost told: { Type 0 };
@@ -19,7 +20,7 @@ pub trait Writer: Drop {
     /// The bytes of a sealed file.
     ghost content: { Self.Sealed → List ℕ };
 
-    /// How often it failed.
+    /// How often it failed. Only an answer that tells of a fault moves the count; where failures are planned, by exactly one.
     ghost faults: { Self → ℕ };
 
     /// Which of its calls, `write` and `seal`, are to fail, where that is known.
@@ -30,6 +31,8 @@ pub trait Writer: Drop {
         ensures written { told → OnOk result (written self.new ≡ written self.old ++ part.now) }
         ensures refused { told → IsErrOf result refused.NoMemory → written self.new ≡ written self.old }
         ensures cause { HasCauseWhere IsFault (faults self.old) (faults self.new) result }
+        ensures quiet { After result (faults self.new ≡ faults self.old) (Unit {0}) (faults self.new ≡ faults self.old) }
+        ensures counts { IsSome (plan self.old) → CountsWhere IsFault (faults self.old) (faults self.new) result }
         ensures plan { WritesByPlan (plan self.old) (plan self.new) result };
 
     /// Writes the file through to the device. Only a sealed file can be installed.
@@ -37,8 +40,11 @@ pub trait Writer: Drop {
         ensures content { told → IfOk result (λ file. content file ≡ written self.old) }
         ensures refused { told → IsErrOf result refused.NoMemory → written self.new ≡ written self.old }
         ensures cause { HasCauseWhere IsFault (faults self.old) (faults self.new) result }
+        ensures quiet { After result (faults self.new ≡ faults self.old) (Unit {0}) (faults self.new ≡ faults self.old) }
+        ensures counts { IsSome (plan self.old) → CountsWhere IsFault (faults self.old) (faults self.new) result }
         ensures plan { WritesByPlan (plan self.old) (plan self.new) result };
 
-    /// Lets the writer go.
+    /// Ends the writer without the disk, whose count and clock stay: for one whose file is sealed, or that nobody wants any
+    /// more. Its own count of faults is gone with it.
     fn abort(self);
 }

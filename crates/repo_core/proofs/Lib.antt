@@ -28,3 +28,4 @@ pub mod Works
 pub mod Returnings
 pub mod CallsMade
 pub mod Barrings
+pub mod GivenUp

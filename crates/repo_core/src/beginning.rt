@@ -28,7 +28,6 @@ use repo_model::{Begin, Fault};
 use std::alloc::Global;
 
 /// An upload that is begun, and a copy of its store's name for the journal.
-#[derive(Drop)]
 pub(crate) struct Begun<W> {
     pub(crate) upload: Upload<W>,
     pub(crate) store: StoreName,

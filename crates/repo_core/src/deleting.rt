@@ -69,8 +69,7 @@ fn row_to_delete<T: Keeper>(
 }
 
 /// A deletion that stands ready: the mark of the blob, and the change that takes the row away.
-#[derive(Drop)]
-struct Staged<S: Drop> {
+struct Staged<S> {
     mark: Mark<S>,
     change: Change,
 }
@@ -108,7 +107,8 @@ fn stage<D: Disk>(
         Err(refusal) => return Err(Denial::Failed(disk_fault(refusal))),
     };
     if own.discard(alloc, &asset.blob, key, at).is_err() {
-        disk.discard(mark.file);
+        let Mark { file, files: _ } = mark;
+        disk.discard(file);
         return Err(Denial::Failed(Fault::Memory));
     }
     Ok(Staged {
@@ -134,7 +134,8 @@ fn show<D: Disk, T: Keeper>(
     ensures disk_cause { HasCauseWhere IsDisk (D.faults disk.old) (D.faults disk.new) result }
     ensures keeper_cause { HasCauseWhere IsKeeper (T.faults table.old) (T.faults table.new) result }
 {
-    if let Err(refusal) = place(disk, mark.file, &mark.files) {
+    let Mark { file, files } = mark;
+    if let Err(refusal) = place(disk, file, &files) {
         return Err(disk_fault(refusal));
     }
     match table.apply(change) {
@@ -180,11 +181,11 @@ pub(crate) fn give_up_row<D: Disk, T: Keeper>(
         Ok(asset) => asset,
         Err(why) => return Err(Stop::Denied(why)),
     };
-    let staged = match stage(alloc, disk, own, key, &asset, time(now)) {
+    let Staged { mark, change } = match stage(alloc, disk, own, key, &asset, time(now)) {
         Ok(staged) => staged,
         Err(why) => return Err(Stop::Denied(why)),
     };
-    match show(disk, table, staged.mark, &staged.change) {
+    match show(disk, table, mark, &change) {
         Ok(()) => Ok(()),
         Err(fault) => Err(Stop::Broke(fault)),
     }

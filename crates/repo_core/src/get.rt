@@ -15,7 +15,7 @@ use crate::end::{answer_of, cause_of};
 use crate::entries::refused;
 use crate::getting::give;
 use crate::repository::Core;
-use crate::telling::{look_entry, tell};
+use crate::telling::{Told, look_entry, tell};
 use asset_keeper::Keeper;
 use blob_files::Download;
 use disk_model::Disk;
@@ -73,8 +73,8 @@ impl<D: Disk, T: Keeper> Core<D, T> {
             &moment,
         );
         let cause = cause_of(number, &done);
-        let told = tell(&mut self.holds, caller, number, answer_of(done));
-        self.note(look_entry(caller, key, look, moment, told.reply), cause);
-        told.answer
+        let Told { reply, answer } = tell(&mut self.holds, caller, number, answer_of(done));
+        self.note(look_entry(caller, key, look, moment, reply), cause);
+        answer
     }
 }

@@ -14,8 +14,7 @@ use soft_delete::MarkErr;
 use std::alloc::Global;
 
 /// A mark that stands ready: a sealed file with the new text, and the names of the blob's files.
-#[derive(Drop)]
-pub struct Mark<S: Drop> {
+pub struct Mark<S> {
     pub file: S,
     pub files: BlobFiles,
 }

@@ -38,15 +38,21 @@ impl<D: Disk, T: Keeper> Core<D, T> {
         ensures no_redeploy { result ≡ Err (refusal.WriteDenied NoRedeploy) → T.found self.new.table ≡ true }
         ensures taken { (id : List ℕ) → result ≡ Err (refusal.IdTaken id) → IsSome (D.last_look self.new.disk) }
     {
-        let sha1 = ready.sha1;
+        let Ready {
+            file,
+            begin,
+            store,
+            size,
+            sha1,
+        } = ready;
         let upload = Upload {
-            key: ready.begin.key,
-            content_type: ready.begin.content_type,
-            size: ready.size,
+            key: begin.key,
+            content_type: begin.content_type,
+            size,
             sha1,
         };
         if let Some(why) = self.barred() {
-            self.drop_file(ready.file);
+            self.drop_file(file);
             self.turn_away(put(caller, upload, moment, refused(&why)));
             return Err(why);
         }
@@ -56,9 +62,9 @@ impl<D: Disk, T: Keeper> Core<D, T> {
             &mut self.table,
             &self.config,
             &mut self.own,
-            ready.file,
+            file,
             &upload,
-            &ready.store,
+            &store,
             &moment,
         );
         let cause = cause_of(self.journal.len(), &done);

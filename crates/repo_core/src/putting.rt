@@ -25,6 +25,7 @@ ghost use Rattle.repo_model.specs.declared.reply.Reply.TheVariants as reply;
 
 use crate::admitting::{next_blob, row_to_replace};
 use crate::denial::{Denial, disk_fault, keeper_fault};
+use crate::marking::Mark;
 use crate::own::Own;
 use crate::staging::{NewBlob, Staged, stage_put};
 use crate::stop::Stop;
@@ -113,6 +114,23 @@ fn prepare<D: Disk, T: Keeper>(
     stage_put(alloc, disk, own, upload, old.as_ref(), &blob, at)
 }
 
+/// Gives the mark up that a put made ready and doesn't show, if there is one. Nothing that can be seen is changed.
+fn give_up_mark<D: Disk>(disk: &mut D, mark: Option<Mark<D::Sealed>>)
+    ensures tree { D.told → Same (D.tree disk.old) (D.tree disk.new) }
+    ensures any_moment { D.told → During D.clock D.lists disk.old disk.new (Same (D.lists disk.old (D.clock disk.old))) }
+    ensures cause { D.faults disk.new ≡ D.faults disk.old }
+    ensures shown { D.shown disk.new ≡ D.shown disk.old }
+    ensures look { D.last_look disk.new ≡ D.last_look disk.old }
+{
+    match mark {
+        None => {}
+        Some(mark) => {
+            let Mark { file, files: _ } = mark;
+            disk.discard(file);
+        }
+    }
+}
+
 /// A sealed file becomes the content of a key: its blob is made, its row set, and the blob that the key had marked.
 pub(crate) fn put_content<D: Disk, T: Keeper>(
     alloc: Global,
@@ -161,6 +179,7 @@ pub(crate) fn put_content<D: Disk, T: Keeper>(
     };
     own.last = new.asset.blob.stamp;
     if let Err(fault) = show_new(disk, table, file, &new) {
+        give_up_mark(disk, mark);
         return Err(Stop::Broke(fault));
     }
     let kept = Kept {
@@ -170,7 +189,8 @@ pub(crate) fn put_content<D: Disk, T: Keeper>(
     let Some(mark) = mark else {
         return Ok(kept);
     };
-    match place(disk, mark.file, &mark.files) {
+    let Mark { file, files } = mark;
+    match place(disk, file, &files) {
         Ok(()) => Ok(kept),
         Err(refusal) => Err(Stop::Broke(disk_fault(refusal))),
     }

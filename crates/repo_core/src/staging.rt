@@ -118,8 +118,7 @@ pub(crate) fn stage_old<D: Disk>(
 }
 
 /// A content that stands ready to become that of its key, and the mark of the blob that the key had.
-#[derive(Drop)]
-pub(crate) struct Staged<S: Drop> {
+pub(crate) struct Staged<S> {
     pub(crate) new: NewBlob,
     pub(crate) mark: Option<Mark<S>>,
 }
@@ -148,7 +147,8 @@ fn trash_old<D: Disk>(
         return Ok(Some(mark));
     };
     if own.discard(alloc, &old.blob, key, at).is_err() {
-        disk.discard(mark.file);
+        let Mark { file, files: _ } = mark;
+        disk.discard(file);
         return Err(NoMemory);
     }
     Ok(Some(mark))

@@ -8,8 +8,8 @@ ghost use Rattle.repo_session.specs.Looked.{IsLooked};
 use crate::downloads::{give, let_go};
 use crate::draws::Draws;
 use crate::looks::looked;
-use crate::open_upload::OpenUpload;
-use crate::puts::{finish, stop_upload};
+use crate::open_upload::{OpenUpload, keep};
+use crate::puts::{finish, stop_open, stop_upload};
 use crate::writing::write;
 use asset_keeper::Keeper;
 use blob_files::Download;
@@ -23,8 +23,7 @@ use session_driver::Repository;
 use std::alloc::Global;
 
 /// A core that makes the calls of one session, with the moments that it draws: one for each request.
-#[derive(Drop)]
-pub struct Answering<D: Disk, T: Keeper, W: Drop, R: Drop> {
+pub struct Answering<D: Disk, T: Keeper, W, R> {
     pub alloc: Global,
     pub core: Core<D, T>,
     pub draws: Draws,
@@ -60,9 +59,10 @@ impl<D: Disk, T: Keeper> Repository for Answering<D, T, D::Writer, D::Reader> {
             content_type: begin.content_type,
             kind: Kind::Put,
         };
+        stop_open(&mut self.core, self.upload.take());
         match self.core.begin(0, begin) {
             Ok(upload) => {
-                self.upload = Some(OpenUpload { upload });
+                keep(&mut self.upload, Some(OpenUpload { upload }));
                 Ok(Reply::Begun { store })
             }
             Err(refusal) => {
@@ -76,10 +76,11 @@ impl<D: Disk, T: Keeper> Repository for Answering<D, T, D::Writer, D::Reader> {
         let Some(open) = self.upload.take() else {
             return Err(UploadErr::NoMemory);
         };
-        let mut upload = open.upload;
+        let OpenUpload { upload } = open;
+        let mut upload = upload;
         match upload.write(part) {
             Ok(()) => {
-                self.upload = Some(OpenUpload { upload });
+                keep(&mut self.upload, Some(OpenUpload { upload }));
                 Ok(())
             }
             Err(why) => {
@@ -99,15 +100,15 @@ impl<D: Disk, T: Keeper> Repository for Answering<D, T, D::Writer, D::Reader> {
 
     fn abort(&mut self) {
         self.draws.draw();
-        if let Some(open) = self.upload.take() {
-            self.core.end_upload(0, open.upload);
+        if let Some(OpenUpload { upload }) = self.upload.take() {
+            self.core.end_upload(0, upload);
         }
     }
 
     fn cut(&mut self) {
         self.draws.draw();
-        if let Some(open) = self.upload.take() {
-            self.core.end_upload(0, open.upload);
+        if let Some(OpenUpload { upload }) = self.upload.take() {
+            self.core.end_upload(0, upload);
         }
     }
 
@@ -116,7 +117,7 @@ impl<D: Disk, T: Keeper> Repository for Answering<D, T, D::Writer, D::Reader> {
         let moment = self.draws.draw();
         let got = self.core.get(0, key, look, moment);
         let (said, found) = looked(got);
-        self.found = found;
+        keep(&mut self.found, found);
         said
     }
 

@@ -11,6 +11,7 @@ ghost use Rattle.session_history.specs.Saying.{why_upload};
 ghost use Rattle.session_driver.specs.Replying.{AnswersEach, PutsAs, told};
 ghost use Rattle.repo_core.specs.View.{CoreView};
 ghost use Rattle.repo_core.specs.Devices.{devices};
+ghost use Rattle.repo_session.specs.Resting.{Rests};
 ghost use Rattle.repo_session.specs.Answering.{HasBegun, IsBegun, TurnedTo, stop_of};
 
 use crate::open_upload::OpenUpload;
@@ -28,6 +29,19 @@ fn failure(why: UploadErr) -> UploadErr
     match why {
         UploadErr::DiskFault => UploadErr::DiskFault,
         UploadErr::BodyTooLarge | UploadErr::Dead | UploadErr::NoMemory => UploadErr::NoMemory,
+    }
+}
+
+/// Ends an upload that is open, if one is.
+pub(crate) fn stop_open<D: Disk, T: Keeper>(
+    core: &mut Core<D, T>,
+    open: Option<OpenUpload<D::Writer>>,
+)
+    ensures rests { Rests (devices D.Disk T.Keeper) core.old core.new }
+    ensures holds { core.new.holds ≡ core.old.holds }
+{
+    if let Some(OpenUpload { upload }) = open {
+        core.end_upload(0, upload);
     }
 }
 
@@ -56,7 +70,8 @@ pub(crate) fn finish<D: Disk, T: Keeper>(
         → PutsAs (TurnedTo (devices D.Disk T.Keeper) start core.new moment (whole head content)) head result }
     ensures holds { core.new.holds ≡ core.old.holds }
 {
-    let mut upload = opened.upload;
+    let OpenUpload { upload } = opened;
+    let mut upload = upload;
     let ready = match upload.seal() {
         Ok(ready) => ready,
         Err(why) => return Err(stop_upload(core, upload, why)),

@@ -10,6 +10,7 @@ ghost use Rattle.repo_session.specs.Turned.{DownloadFails};
 use crate::answering::Answering;
 use crate::downloads::let_go;
 use crate::draws::Draws;
+use crate::puts::stop_open;
 use asset_keeper::Keeper;
 use disk_model::Disk;
 use http_front::End;
@@ -40,7 +41,15 @@ pub fn serve<D: Disk, T: Keeper, S: Source, K: Sink>(
         found: None,
     };
     let end = run_session(alloc, &mut answering, input, output);
-    let mut core = answering.core;
-    let_go(&mut core, answering.found);
+    let Answering {
+        alloc: _,
+        core,
+        draws: _,
+        upload,
+        found,
+    } = answering;
+    let mut core = core;
+    stop_open(&mut core, upload);
+    let_go(&mut core, found);
     (end, core)
 }

@@ -1,5 +1,5 @@
 ghost use Rattle.std.specs.Prelude.{◌≡◌, ◌⊎◌, ◌↔◌, ◌<◌, ◌≤◌, ◌^◌, ◌∷◌, [], length, OnOk, OnErr, IfOk, IsErrOf, Some};
-ghost use Rattle.nx_io.specs.Causes.{HasCauseWhere};
+ghost use Rattle.nx_io.specs.Causes.{Rose, HasCauseWhere};
 ghost use Rattle.disk_model.specs.Disk.{Same, Rest, Outside};
 ghost use Rattle.disk_model.specs.Disk as disks;
 ghost use Rattle.disk_model.specs.Moments.{During, MayPut, Settled, EachImage};
@@ -37,6 +37,7 @@ pub fn stage_mark<D: Disk>(
     ensures full { IsErrOf result refused.Full ↔ (247 < length props.now.others) }
     ensures cause { HasCauseWhere IsFault (D.faults disk.old) (D.faults disk.new) result }
     ensures look { D.last_look disk.new ≡ D.last_look disk.old }
+    ensures shown { D.shown disk.new ≡ D.shown disk.old }
 {
     let text = match marked_text(alloc, props, reason, at) {
         Ok(text) => text,
@@ -60,6 +61,7 @@ pub fn stage_unmark<D: Disk>(
     ensures full { IsErrOf result refused.Full ↔ (250 < length props.now.others) }
     ensures cause { HasCauseWhere IsFault (D.faults disk.old) (D.faults disk.new) result }
     ensures look { D.last_look disk.new ≡ D.last_look disk.old }
+    ensures shown { D.shown disk.new ≡ D.shown disk.old }
 {
     let text = match unmarked_text(alloc, props) {
         Ok(text) => text,
@@ -80,6 +82,8 @@ pub fn place<D: Disk>(disk: &mut D, file: D::Sealed, files: &BlobFiles) -> Resul
     ensures settled { D.told → OnOk result (D.lists disk.new (D.clock disk.new) (props_at files.now.place) ≡ Some (D.Writer.content file) ∷ []) }
     ensures cause { HasCauseWhere disks.IsFault (D.faults disk.old) (D.faults disk.new) result }
     ensures look { D.last_look disk.new ≡ D.last_look disk.old }
+    ensures shown { Rose (D.shown disk.old) (D.shown disk.new) }
+    ensures forward { D.shown disk.old ≤ D.shown disk.new }
     // At every moment the properties have at most the new text more, and other lists are those of the beginning.
     ensures any_moment { D.told → During D.clock D.lists disk.old disk.new (MayPut (props_at files.now.place) (Some (D.Writer.content file)) (D.lists disk.old (D.clock disk.old))) }
     // So each image of a disk that was settled is the old tree, or has the new text.
@@ -106,6 +110,8 @@ pub fn mark<D: Disk>(
     ensures full { IsErrOf result refused.Full ↔ (247 < length props.now.others) }
     ensures unchanged { (IsErrOf result refused.Full ⊎ IsErrOf result refused.NoMemory) → disk.new ≡ disk.old }
     ensures cause { HasCauseWhere IsFault (D.faults disk.old) (D.faults disk.new) result }
+    ensures shown { OnOk result (Rose (D.shown disk.old) (D.shown disk.new)) }
+    ensures forward { D.shown disk.old ≤ D.shown disk.new }
     ensures look { D.last_look disk.new ≡ D.last_look disk.old }
     // At every moment the properties have at most the marked text more, and other lists are those of the beginning.
     ensures any_moment { D.told → During D.clock D.lists disk.old disk.new (MayPut (props_at files.now.place) (Some (marked_text_of props.now reason.now at)) (D.lists disk.old (D.clock disk.old))) }
@@ -137,6 +143,8 @@ pub fn unmark<D: Disk>(
     ensures full { IsErrOf result refused.Full ↔ (250 < length props.now.others) }
     ensures unchanged { (IsErrOf result refused.Full ⊎ IsErrOf result refused.NoMemory) → disk.new ≡ disk.old }
     ensures cause { HasCauseWhere IsFault (D.faults disk.old) (D.faults disk.new) result }
+    ensures shown { OnOk result (Rose (D.shown disk.old) (D.shown disk.new)) }
+    ensures forward { D.shown disk.old ≤ D.shown disk.new }
     ensures look { D.last_look disk.new ≡ D.last_look disk.old }
     ensures any_moment { D.told → During D.clock D.lists disk.old disk.new (MayPut (props_at files.now.place) (Some (unmarked_text_of props.now)) (D.lists disk.old (D.clock disk.old))) }
     ensures any_image { D.told → Settled (D.tree disk.old) (D.lists disk.old (D.clock disk.old))
@@ -160,6 +168,8 @@ fn replace<D: Disk>(disk: &mut D, files: &BlobFiles, text: &[u8]) -> Result<(), 
     ensures settled { D.told → OnOk result (D.lists disk.new (D.clock disk.new) (props_at files.now.place) ≡ Some text.now ∷ []) }
     ensures disk_refused { ¬ (IsErrOf result refused.Full ⊎ IsErrOf result refused.NoMemory) }
     ensures cause { HasCauseWhere IsFault (D.faults disk.old) (D.faults disk.new) result }
+    ensures shown { OnOk result (Rose (D.shown disk.old) (D.shown disk.new)) }
+    ensures forward { D.shown disk.old ≤ D.shown disk.new }
     ensures look { D.last_look disk.new ≡ D.last_look disk.old }
     ensures any_moment { D.told → During D.clock D.lists disk.old disk.new (MayPut (props_at files.now.place) (Some text.now) (D.lists disk.old (D.clock disk.old))) }
     ensures outside { Outside (props_at files.now.place) }

@@ -164,4 +164,4 @@ module _ (homes : Homes) (tree : Tree) (blob : BlobRef) where
 
   pub marked_or_gone_is_not_live : MarkedOrGone (place_of blob) tree → NoneLive homes tree blob
   marked_or_gone_is_not_live (inl marked) = marked_is_not_live marked.0 marked.1 marked.2
-  marked_or_gone_is_not_live (inr gone) = absent_is_not_live gone
+  marked_or_gone_is_not_live (inr gone) = absent_is_not_live gone.0

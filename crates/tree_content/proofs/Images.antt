@@ -9,7 +9,7 @@ use Rattle.blob_paths.specs.Places.{place_of}
 use Rattle.blob_paths.specs.declared.ending.Ending.TheVariants.{Bytes, Properties}
 use Rattle.blob_properties.specs.Props.{Props}
 use Rattle.blob_properties.specs.Readable.{readable_of}
-use Rattle.tree_content.specs.Blobs.{props_at, bytes_name, props_name, IsRef, Homes, Reads}
+use Rattle.tree_content.specs.Blobs.{bytes_at, props_at, bytes_name, props_name, IsRef, Homes, Reads}
 use Rattle.tree_content.specs.Contents.{SameContents, OldOrNew, OldOrBlob, OldOrLost, IsNoContent, NoneLive, OnlyLive}
 use Rattle.tree_content.specs.Files.{RestOfPlace, Creates, IsCreatedIn, Erases, SaysMarked, IsMarkedAt, MarkedOrGone}
 use Rattle.tree_content.proofs.Names.{outside}
@@ -106,19 +106,19 @@ each_value place tree first present each v there =
     (marked.0, sym (with_value-at p tree v (same_or_not p p)) ∙ marked.1, marked.2)
 
 -- a marked blob that is erased is marked or gone in each image
-pub marked_or_gone : (place : List ℕ) (tree : Tree) (first now : Lists) → Outside (props_at place) → IsImage first tree → EachImage (IsMarkedAt place) first
+pub marked_or_gone : (place : List ℕ) (tree : Tree) (first now : Lists) → Outside (bytes_at place) → Outside (props_at place) → IsImage first tree → EachImage (IsMarkedAt place) first
     → Erases place first now → EachImage (MarkedOrGone place) now
-marked_or_gone place tree first now out present each erases image is = ⊎_elim
+marked_or_gone place tree first now bytes_out props_out present each erases image is = ⊎_elim
     (λ old. inl (each_value place tree first present each (image (props_at place)) old))
-    (λ none. inr none)
-    (erases.props_list (image (props_at place)) (is (props_at place) out))
+    (λ gone. inr (gone.0, gone.1 (image (bytes_at place)) (is (bytes_at place) bytes_out)))
+    (erases.props_list (image (props_at place)) (is (props_at place) props_out))
 
 -- and no image has other contents
 pub erasing : (homes : Homes) (blob : BlobRef) (ref : IsRef blob) (tree : Tree) (first now : Lists) → Settled tree first → IsImage first tree → EachImage (IsMarkedAt (place_of blob)) first
     → Erases (place_of blob) first now → EachImage (SameContents homes tree) now
 erasing homes blob ref tree first now settled present each erases image is =
     kept homes blob ref tree image rest (marked_or_gone_is_not_live homes tree blob (inl (each tree present)))
-    (marked_or_gone_is_not_live homes image blob (marked_or_gone (place_of blob) tree first now (outside blob Properties ref) present each erases image is))
+    (marked_or_gone_is_not_live homes image blob (marked_or_gone (place_of blob) tree first now (outside blob Bytes ref) (outside blob Properties ref) present each erases image is))
   where
     rest : RestOfPlace (place_of blob) tree image
     rest n out not_bytes not_props =

@@ -17,6 +17,11 @@ use Rattle.tree_content.proofs.Images.{creating, marking, unmarking, marked_or_g
 pub two_names : (place : List ℕ) → bytes_at place ≢ props_at place
 two_names place same = let ends = same_ending place place Bytes Properties same in let differ = ends.0 in cc
 
+-- what is in a list of one value
+one_value : (v w : Option (List ℕ)) → Among w (v ∷ []) → w ≡ v
+one_value v w (inl is) = is
+one_value v w (inr none) = absurd none
+
 module _ (place : List ℕ) (bytes_out : Outside (bytes_at place)) (props_out : Outside (props_at place)) where
   not_bytes : props_at place ≢ bytes_at place
   not_bytes same = two_names place (sym same)
@@ -45,7 +50,7 @@ module _ (place : List ℕ) (bytes_out : Outside (bytes_at place)) (props_out : 
       bytes_list = λ v here. before.named v (subst (λ (list : List (Option (List ℕ))). Among v list) still here);
       props_list = λ v here. ⊎_elim
           (λ old. inl (subst (λ (list : List (Option (List ℕ))). Among v list) (before.rest (props_at place) props_out not_bytes) old))
-          (λ new. inr (new, λ w there. one w (subst (λ (list : List (Option (List ℕ))). Among w list) (still ∙ settled) there)))
+          (λ new. inr (new, λ w there. one_value (Some bytes) w (subst (λ (list : List (Option (List ℕ))). Among w list) (still ∙ settled) there)))
           (put.named v here);
       others = λ n out other_bytes other_props. put.rest n out other_props ∙ before.rest n out other_bytes;
     }
@@ -53,19 +58,19 @@ module _ (place : List ℕ) (bytes_out : Outside (bytes_at place)) (props_out : 
         still : l (bytes_at place) ≡ mid (bytes_at place)
         still = put.rest (bytes_at place) bytes_out (two_names place)
 
-        one : (w : Option (List ℕ)) → Among w (Some bytes ∷ []) → w ≡ Some bytes
-        one w (inl is) = is
-        one w (inr none) = absurd none
-
-    erases_props : MayPut (bytes_at place) None first mid → MayPut (props_at place) None mid l → Erases place first l
-    erases_props before put = record {
-      bytes_list = λ v here. before.named v (subst (λ (list : List (Option (List ℕ))). Among v list) (put.rest (bytes_at place) bytes_out (two_names place)) here);
+    -- while the properties file is taken away, after the bytes file was settled as absent
+    erases_props : MayPut (bytes_at place) None first mid → mid (bytes_at place) ≡ None ∷ [] → MayPut (props_at place) None mid l → Erases place first l
+    erases_props before settled put = record {
+      bytes_list = λ v here. before.named v (subst (λ (list : List (Option (List ℕ))). Among v list) still here);
       props_list = λ v here. ⊎_elim
           (λ old. inl (subst (λ (list : List (Option (List ℕ))). Among v list) (before.rest (props_at place) props_out not_bytes) old))
-          (λ gone. inr gone)
+          (λ gone. inr (gone, λ w there. one_value None w (subst (λ (list : List (Option (List ℕ))). Among w list) (still ∙ settled) there)))
           (put.named v here);
       others = λ n out other_bytes other_props. put.rest n out other_props ∙ before.rest n out other_bytes;
     }
+      where
+        still : l (bytes_at place) ≡ mid (bytes_at place)
+        still = put.rest (bytes_at place) bytes_out (two_names place)
 
   module _ {D : Type 0} (clock : D → ℕ) (lists : D → ℕ → Lists) where
     -- a run that puts the bytes file
@@ -89,23 +94,25 @@ module _ (place : List ℕ) (bytes_out : Outside (bytes_at place)) (props_out : 
         (weaker clock lists (MayPut (props_at place) (Some text) between) (Creates place bytes text first) mid new
         (λ l put. creates_props first between l bytes text here settled put) next)
 
-    -- a run that takes the bytes file away, and then one that takes the properties file away
+    -- a run that takes the bytes file away
     pub erases_first : (old new : D) → During clock lists old new (MayPut (bytes_at place) None (lists old (clock old))) → During clock lists old new (Erases place (lists old (clock old)))
     erases_first old new run =
         let first = lists old (clock old) in
         weaker clock lists (MayPut (bytes_at place) None first) (Erases place first) old new (λ l put. erases_bytes first l put) run
 
+    -- and then, where the bytes file is settled as absent, one that takes the properties file away
     pub erases_both : (old mid new : D) → During clock lists old mid (MayPut (bytes_at place) None (lists old (clock old)))
+        → lists mid (clock mid) (bytes_at place) ≡ None ∷ []
         → During clock lists mid new (MayPut (props_at place) None (lists mid (clock mid)))
         → During clock lists old new (Erases place (lists old (clock old)))
-    erases_both old mid new run next =
+    erases_both old mid new run settled next =
         let first = lists old (clock old) in
         let between = lists mid (clock mid) in
         let here = run.each (clock mid) run.later (omega arith) in
         and_then clock lists (Erases place first) old mid new
         (erases_first old mid run)
         (weaker clock lists (MayPut (props_at place) None between) (Erases place first) mid new
-        (λ l put. erases_props first between l here put) next)
+        (λ l put. erases_props first between l here settled put) next)
 
 module _ {D : Type 0} (clock : D → ℕ) (lists : D → ℕ → Lists) (old new : D) (tree : Tree) where
   abbrev first : Lists
@@ -120,11 +127,11 @@ module _ {D : Type 0} (clock : D → ℕ) (lists : D → ℕ → Lists) (old new
       (λ l creates. creating homes blob ref tree first l settled bytes text free creates) run
 
   -- at every moment the blob at the place is marked or gone in each image
-  pub erased_images : (place : List ℕ) → Outside (props_at place) → IsImage (lists old (clock old)) tree → EachImage (IsMarkedAt place) (lists old (clock old))
+  pub erased_images : (place : List ℕ) → Outside (bytes_at place) → Outside (props_at place) → IsImage (lists old (clock old)) tree → EachImage (IsMarkedAt place) (lists old (clock old))
       → During clock lists old new (Erases place (lists old (clock old)))
       → During clock lists old new (EachImage (MarkedOrGone place))
-  erased_images place out present each run =
-      weaker clock lists (Erases place first) (EachImage (MarkedOrGone place)) old new (λ l erases. marked_or_gone place tree first l out present each erases) run
+  erased_images place bytes_out props_out present each run =
+      weaker clock lists (Erases place first) (EachImage (MarkedOrGone place)) old new (λ l erases. marked_or_gone place tree first l bytes_out props_out present each erases) run
 
   -- and each image has the contents before
   pub erased_contents : (homes : Homes) (blob : BlobRef) → IsRef blob → Settled tree (lists old (clock old)) → IsImage (lists old (clock old)) tree

@@ -21,10 +21,10 @@ abbrev pub IsCreatedIn : List ℕ → List ℕ → List ℕ → Tree → Tree �
 IsCreatedIn place bytes text tree image =
     RestOfPlace place tree image × ((image (props_at place) ≡ None) ⊎ ((image (props_at place) ≡ Some text) × (image (bytes_at place) ≡ Some bytes)))
 
--- Since the first lists at most absent joined, at the two names of the place alone.
+-- Since the first lists at most absent joined, at the two names of the place alone, and of the properties only where the bytes are absent for sure.
 pub record Erases (place : List ℕ) (first now : Lists) : Type 0 where
   pub bytes_list : (v : Option (List ℕ)) → Among v (now (bytes_at place)) → Among v (first (bytes_at place)) ⊎ (v ≡ None)
-  pub props_list : (v : Option (List ℕ)) → Among v (now (props_at place)) → Among v (first (props_at place)) ⊎ (v ≡ None)
+  pub props_list : (v : Option (List ℕ)) → Among v (now (props_at place)) → Among v (first (props_at place)) ⊎ ((v ≡ None) × Alone None (now (bytes_at place)))
   pub others : RestOfPlace place first now
 
 -- a text that says that its blob is marked
@@ -35,6 +35,6 @@ SaysMarked text = (props : Props) × Readable text props × IsSome props.deleted
 abbrev pub IsMarkedAt : List ℕ → Tree → Type 0
 IsMarkedAt place tree = (text : List ℕ) × (tree (props_at place) ≡ Some text) × SaysMarked text
 
--- it is marked, or has no properties file
+-- it is marked, or both its files are gone
 abbrev pub MarkedOrGone : List ℕ → Tree → Type 0
-MarkedOrGone place tree = IsMarkedAt place tree ⊎ (tree (props_at place) ≡ None)
+MarkedOrGone place tree = IsMarkedAt place tree ⊎ ((tree (props_at place) ≡ None) × (tree (bytes_at place) ≡ None))

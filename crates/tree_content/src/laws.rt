@@ -12,7 +12,7 @@ ghost use Rattle.blob_properties.specs.Props.{Props};
 ghost use Rattle.blob_properties.specs.Readable.{readable_of};
 ghost use Rattle.blob_properties.specs.declared.found.Verdict.{Verdict};
 ghost use Rattle.blob_properties.specs.declared.found.Verdict.TheVariants.{Intact};
-ghost use Rattle.tree_content.specs.Blobs.{props_at, props_name, stamped, SameFiles, IsRef, IsBlob, Homes, Reads, IsIntact, IsStray, Live, IsInContent};
+ghost use Rattle.tree_content.specs.Blobs.{bytes_at, props_at, props_name, stamped, SameFiles, IsRef, IsBlob, Homes, Reads, IsIntact, IsStray, Live, IsInContent};
 ghost use Rattle.tree_content.specs.Contents.{Content, content_of, ContentOf, newest_of, AreLive, Contents, HasContents, with_content, SameContents, SameBeside, OldOrNew, OldOrBlob, OldOrLost, IsNoContent, OnlyLive, NoneLive, NamesEachLive};
 ghost use Rattle.tree_content.specs.Verdicts.{HasVerdict};
 ghost use Rattle.tree_content.specs.Files.{RestOfPlace, Creates, Erases, SaysMarked, IsMarkedAt, MarkedOrGone};
@@ -133,10 +133,10 @@ pub fn images_while_a_mark_is_taken_away()
         → MayPut (props_name blob) (Some text) first now → EachImage (OldOrBlob homes tree blob (readable_of text)) now }
 {}
 
-/// While the two files at a place are erased whose blob is marked in each image, it is marked or gone in each image; and
-/// begun on a settled disk, each image has the contents before. The present tree is always an image.
+/// While the two files at a place are erased whose blob is marked in each image, it is marked or gone, with both files, in
+/// each image; and begun on a settled disk, each image has the contents before. The present tree is always an image.
 pub fn images_while_a_blob_is_erased()
-    ensures gone { (place : List ℕ) (tree : Tree) (first now : Lists) → Outside (props_at place) → IsImage first tree → EachImage (IsMarkedAt place) first
+    ensures gone { (place : List ℕ) (tree : Tree) (first now : Lists) → Outside (bytes_at place) → Outside (props_at place) → IsImage first tree → EachImage (IsMarkedAt place) first
         → Erases place first now → EachImage (MarkedOrGone place) now }
     ensures contents { (homes : Homes) (blob : BlobRef) (tree : Tree) (first now : Lists) → IsRef blob → Settled tree first → IsImage first tree → EachImage (IsMarkedAt (place_of blob)) first
         → Erases (place_of blob) first now → EachImage (SameContents homes tree) now }

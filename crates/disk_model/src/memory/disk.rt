@@ -1,5 +1,5 @@
 ghost use Rattle.std.specs.Prelude.{◌≡◌, ◌<◌, ◌+◌, ◌/◌, length, if◌then◌else◌, ◌++◌, ◌∷◌, ◌^◌, [], ℕ, List, take, Some, None, IfOk, OnOk, OnErr, true, map, option_map, vec_len};
-ghost use Rattle.nx_io.specs.Causes.{HasCauseWhere};
+ghost use Rattle.nx_io.specs.Causes.{HasCauseWhere, CountsWhere};
 ghost use Rattle.disk_model.specs.Seen.{seen};
 ghost use Rattle.disk_model.specs.Past.{all_before, value_of, lookup, Moves, Noted};
 ghost use Rattle.disk_model.specs.Plan.{fails_at, calls_listed, first_plan, part_plan, FailsByPlan, PlannedLeaves};
@@ -29,6 +29,7 @@ pub struct MemDisk {
     stop_after: Option<u64>,
     faults: u64,
     looked: Option<u64>,
+    shown: u64,
     writers: u64,
     readers: u64,
     fail_writes: Vec<(u64, u64)>,
@@ -100,7 +101,7 @@ fn reader_of(
 }
 
 impl MemDisk {
-    ghost use Rattle.disk_model.specs.Memory.{tree_in, lists_in, clock_in, faults_in, look_in, plan_in};
+    ghost use Rattle.disk_model.specs.Memory.{tree_in, lists_in, clock_in, faults_in, look_in, shown_in, plan_in};
 
     /// A disk with these files, each settled. Of several files with one name the first counts.
     pub fn new(
@@ -114,6 +115,7 @@ impl MemDisk {
         ensures faults { IfOk result (λ d. faults_in d ≡ 0) }
         ensures clock { IfOk result (λ d. clock_in d ≡ 0) }
         ensures looked { IfOk result (λ d. look_in d ≡ None) }
+        ensures shown { IfOk result (λ d. shown_in d ≡ 0) }
         ensures plan { IfOk result (λ d. plan_in d ≡ first_plan failing.items stop_after) }
     {
         let history = History::new(alloc, files)?;
@@ -125,6 +127,7 @@ impl MemDisk {
             stop_after,
             faults: 0,
             looked: None,
+            shown: 0,
             writers: 0,
             readers: 0,
             fail_writes: Vec::new(alloc),
@@ -142,6 +145,7 @@ impl MemDisk {
         ensures clock { clock_in self.new ≡ clock_in self.old }
         ensures faults { faults_in self.new ≡ faults_in self.old }
         ensures looked { look_in self.new ≡ look_in self.old }
+        ensures shown { shown_in self.new ≡ shown_in self.old }
     {
         self.fail_writes = writes;
         self.fail_reads = reads;
@@ -198,6 +202,7 @@ impl MemDisk {
         ensures plan { IfOk result (λ d. plan_in d ≡ first_plan [] None) }
         ensures faults { IfOk result (λ d. faults_in d ≡ 0) }
         ensures clock { IfOk result (λ d. clock_in d ≡ 0) }
+        ensures shown { IfOk result (λ d. shown_in d ≡ 0) }
     {
         let names = self.history.names()?;
         let mut files = Vec::new(self.alloc);
@@ -237,6 +242,7 @@ impl MemDisk {
         ensures history { self.new.history ≡ self.old.history }
         ensures faults { faults_in self.new ≡ faults_in self.old }
         ensures looked { look_in self.new ≡ look_in self.old }
+        ensures shown { shown_in self.new ≡ shown_in self.old }
         ensures plan { plan_in self.new ≡ plan_in self.old }
         ensures crash { lists_in self.new (clock_in self.new) ≡ lists_in self.old (clock_in self.old) }
         ensures time { Ticks (clock_in self.old) (clock_in self.new) (lists_in self.old) (lists_in self.new) }
@@ -248,9 +254,11 @@ impl MemDisk {
     fn tick(&mut self) -> Result<(), DiskErr>
         ensures history { self.new.history ≡ self.old.history }
         ensures looked { look_in self.new ≡ look_in self.old }
+        ensures shown { shown_in self.new ≡ shown_in self.old }
         ensures plan { plan_in self.new ≡ plan_in self.old }
         ensures exact { FailsByPlan (Some (plan_in self.old)) (clock_in self.old) result }
         ensures cause { HasCauseWhere IsFault (faults_in self.old) (faults_in self.new) result }
+        ensures counts { CountsWhere IsFault (faults_in self.old) (faults_in self.new) result }
         ensures crash { lists_in self.new (clock_in self.new) ≡ lists_in self.old (clock_in self.old) }
         ensures time { Ticks (clock_in self.old) (clock_in self.new) (lists_in self.old) (lists_in self.new) }
     {
@@ -278,6 +286,7 @@ impl MemDisk {
         ensures calls { Moves (clock_in self.old) (clock_in self.new) }
         ensures faults { faults_in self.new ≡ faults_in self.old }
         ensures looked { look_in self.new ≡ look_in self.old }
+        ensures shown { shown_in self.new ≡ shown_in self.old }
         ensures plan { plan_in self.new ≡ plan_in self.old }
     {
         let at = self.calls;
@@ -301,9 +310,11 @@ impl MemDisk {
         ensures log { Noted result (clock_in self.old) name.now value settles self.old.history.log.items self.new.history.log.items }
         ensures room { After result (clock_in self.old + 1 < 2 ^ 64) (clock_in self.old + 1 < 2 ^ 64) (Unit {0}) }
         ensures looked { look_in self.new ≡ look_in self.old }
+        ensures shown { shown_in self.new ≡ shown_in self.old }
         ensures plan { plan_in self.new ≡ plan_in self.old }
         ensures exact { FailsByPlan (Some (plan_in self.old)) (clock_in self.old) result }
         ensures cause { HasCauseWhere IsFault (faults_in self.old) (faults_in self.new) result }
+        ensures counts { CountsWhere IsFault (faults_in self.old) (faults_in self.new) result }
         ensures calls { Moves (clock_in self.old) (clock_in self.new) }
     {
         let fails = self.fails();
@@ -323,9 +334,11 @@ impl MemDisk {
     fn put(&mut self, name: &Name, value: Option<Vec<u8>>) -> Result<(), DiskErr>
         ensures tree { Puts result name.now (value_of value) (tree_in self.old) (tree_in self.new) }
         ensures looked { look_in self.new ≡ look_in self.old }
+        ensures shown { shown_in self.new ≡ shown_in self.old }
         ensures plan { plan_in self.new ≡ plan_in self.old }
         ensures exact { FailsByPlan (Some (plan_in self.old)) (clock_in self.old) result }
         ensures cause { HasCauseWhere IsFault (faults_in self.old) (faults_in self.new) result }
+        ensures counts { CountsWhere IsFault (faults_in self.old) (faults_in self.new) result }
         ensures effect { PlannedLeaves (Some (plan_in self.old)) result (tree_in self.new ≡ tree_in self.old) }
         ensures crash { Joins result name.now (value_of value) (lists_in self.old (clock_in self.old)) (lists_in self.new (clock_in self.new)) }
         ensures time { Ticks (clock_in self.old) (clock_in self.new) (lists_in self.old) (lists_in self.new) }
@@ -337,9 +350,11 @@ impl MemDisk {
     fn settle(&mut self, name: &Name) -> Result<(), DiskErr>
         ensures tree { tree_in self.new ≡ tree_in self.old }
         ensures looked { look_in self.new ≡ look_in self.old }
+        ensures shown { shown_in self.new ≡ shown_in self.old }
         ensures plan { plan_in self.new ≡ plan_in self.old }
         ensures exact { FailsByPlan (Some (plan_in self.old)) (clock_in self.old) result }
         ensures cause { HasCauseWhere IsFault (faults_in self.old) (faults_in self.new) result }
+        ensures counts { CountsWhere IsFault (faults_in self.old) (faults_in self.new) result }
         ensures effect { PlannedLeaves (Some (plan_in self.old)) result (lists_in self.new (clock_in self.new) ≡ lists_in self.old (clock_in self.old)) }
         ensures crash { Settles result name.now (tree_in self.old name.now) (lists_in self.old (clock_in self.old)) (lists_in self.new (clock_in self.new)) }
         ensures time { Ticks (clock_in self.old) (clock_in self.new) (lists_in self.old) (lists_in self.new) }
@@ -350,7 +365,7 @@ impl MemDisk {
 
 impl Disk for MemDisk {
     ghost use Rattle.std.specs.Prelude.{Some};
-    ghost use Rattle.disk_model.specs.Memory.{tree_in, lists_in, clock_in, faults_in, look_in, plan_in};
+    ghost use Rattle.disk_model.specs.Memory.{tree_in, lists_in, clock_in, faults_in, look_in, shown_in, plan_in};
     ghost use Rattle.disk_model.specs.PastLaws.{present_of};
 
     type Sealed = MemSealed;
@@ -373,6 +388,8 @@ impl Disk for MemDisk {
 
     ghost last_look = { look_in };
 
+    ghost shown = { shown_in };
+
     ghost writers_tell = { λ told. told };
 
     ghost readers_tell = { λ told. told };
@@ -391,21 +408,24 @@ impl Disk for MemDisk {
     }
 
     fn install(&mut self, file: MemSealed, name: &Name) -> Result<(), DiskErr> {
-        self.put(name, Some(file.bytes))
+        self.shown = one_more(self.shown);
+        let MemSealed { bytes } = file;
+        self.put(name, Some(bytes))
     }
 
-    fn discard(&mut self, _file: MemSealed) {
+    fn discard(&mut self, file: MemSealed) {
+        let MemSealed { bytes: _ } = file;
         self.skip();
     }
 
     fn give_up(&mut self, file: MemWriter) {
         self.skip();
-        self.faults = with_part(self.faults, file.faults());
+        self.faults = with_part(self.faults, file.into_faults());
     }
 
     fn end_reader(&mut self, file: MemReader) {
         self.skip();
-        self.faults = with_part(self.faults, file.faults());
+        self.faults = with_part(self.faults, file.into_faults());
     }
 
     fn sync(&mut self, name: &Name) -> Result<(), DiskErr> {
@@ -414,6 +434,7 @@ impl Disk for MemDisk {
 
     fn remove(&mut self, name: &Name) -> Result<bool, DiskErr> {
         let there = self.history.find(name).is_some();
+        self.shown = one_more(self.shown);
         self.put(name, None)?;
         Ok(there)
     }

@@ -7,7 +7,6 @@ use nx_io::Failed;
 use std::alloc::Global;
 
 /// A file in memory that is being read.
-#[derive(Drop)]
 pub struct MemReader {
     bytes: Vec<u8>,
     at: usize,
@@ -41,10 +40,19 @@ impl MemReader {
         }
     }
 
-    pub fn faults(&self) -> u64
-        ensures { result ≡ self.now.faults }
+    /// How many of its calls failed. It ends the reader.
+    pub(crate) fn into_faults(self) -> u64
+        ensures { result ≡ self.faults }
     {
-        self.faults
+        let MemReader {
+            bytes: _,
+            at: _,
+            calls: _,
+            failing: _,
+            faults,
+            ended: _,
+        } = self;
+        faults
     }
 }
 

@@ -1,5 +1,5 @@
-ghost use Rattle.std.specs.Prelude.{◌≡◌, ◌≤◌, [], true};
-ghost use Rattle.nx_io.specs.Causes.{Rose};
+ghost use Rattle.std.specs.Prelude.{◌≡◌, ◌≤◌, [], true, false};
+ghost use Rattle.nx_io.specs.Causes.{MovesByOne};
 ghost use Rattle.disk_model.specs.Plan.{one_more, is_listed};
 
 use crate::disk_err::DiskErr;
@@ -8,13 +8,12 @@ use crate::writer::Writer;
 use std::alloc::Global;
 
 /// The bytes of a sealed file.
-#[derive(Debug, Drop)]
+#[derive(Debug)]
 pub struct MemSealed {
-    pub bytes: Vec<u8>,
+    pub(crate) bytes: Vec<u8>,
 }
 
 /// A file in memory that is being written.
-#[derive(Drop)]
 pub struct MemWriter {
     alloc: Global,
     bytes: Vec<u8>,
@@ -40,10 +39,18 @@ impl MemWriter {
         }
     }
 
-    pub fn faults(&self) -> u64
-        ensures { result ≡ self.now.faults }
+    /// How many of its calls failed. It ends the writer.
+    pub(crate) fn into_faults(self) -> u64
+        ensures { result ≡ self.faults }
     {
-        self.faults
+        let MemWriter {
+            alloc: _,
+            bytes: _,
+            calls: _,
+            failing: _,
+            faults,
+        } = self;
+        faults
     }
 
     // Whether this call fails. The count rises with it.
@@ -52,8 +59,9 @@ impl MemWriter {
         ensures listed { result ≡ is_listed self.old.failing.items self.old.calls }
         ensures calls { self.new.calls ≡ one_more self.old.calls }
         ensures failing { self.new.failing.items ≡ self.old.failing.items }
-        ensures rose { result ≡ true → Rose self.old.faults self.new.faults }
+        ensures moved { result ≡ true → MovesByOne self.old.faults self.new.faults }
         ensures later { self.old.faults ≤ self.new.faults }
+        ensures quiet { result ≡ false → self.new.faults ≡ self.old.faults }
     {
         let fails = self.failing.contains(&self.calls);
         self.calls = one_more(self.calls);
@@ -99,5 +107,7 @@ impl Writer for MemWriter {
         }
     }
 
-    fn abort(self) {}
+    fn abort(self) {
+        let _faults = self.into_faults();
+    }
 }

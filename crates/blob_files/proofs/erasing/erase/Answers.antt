@@ -7,7 +7,7 @@ use Rattle.blob_files.proofs.erasing.erase.Goals as goal
 pub returns-clause-any_image : goal.returns-clause-any_image
 returns-clause-any_image g c told marked =
     let old = c.args.disk.now in
-    erased_images g.D.Disk.clock g.D.Disk.lists old c.remove_both.new.disk (g.D.Disk.tree old) c.args.files.now.place c.remove_both.ensures.outside.1
+    erased_images g.D.Disk.clock g.D.Disk.lists old c.remove_both.new.disk (g.D.Disk.tree old) c.args.files.now.place c.remove_both.ensures.outside.0 c.remove_both.ensures.outside.1
     (λ n _. g.met.D.Disk.present old told n) marked (c.remove_both.ensures.any_moment told)
 
 pub returns-clause-contents : goal.returns-clause-contents

@@ -22,6 +22,7 @@ use Rattle.repo_core.proofs.Rises.{stopped_by_disk, not_by_keeper}
 use Rattle.repo_core.proofs.Stays.{bytes_apart, stay_same, stay_marked, stay_made, at_blob}
 use Rattle.repo_core.proofs.Givings.{crash_same, agrees_same}
 use Rattle.repo_core.proofs.Replacings.{settled_created}
+use Rattle.repo_core.proofs.GivenUp.{made_still}
 use Rattle.repo_core.proofs.Endings.{new_one, crash_one, crash_two, put_first, put_again}
 use Rattle.repo_core.proofs.putting.put_content.Goals as goal
 
@@ -71,7 +72,9 @@ returns-in-Err-show_new-clause-crash g c = λ told some may are s a settled.
     let p : IsPrepared g.D.Writer.Writer.content config (tree c.args.disk.now) s c.args.store.now c.args.upload.now c.args.moment.now c.args.own.now c.prepare.new.own staged =
     c.in-Ok.ensures.ready told here may s a in
     crash_one content config (tree c.args.disk.now) s c.args.store.now c.args.upload.now c.args.moment.now c.args.own.now c.prepare.new.own staged rows0 a may p (content c.args.file) are
-    g.D.Disk.clock g.D.Disk.lists c.args.disk.now c.prepare.new.disk c.show_new.new.disk (tree c.prepare.new.disk) (c.prepare.ensures.tree told) settled (c.prepare.ensures.any_moment told) (c.show_new.ensures.any_moment told)
+    g.D.Disk.clock g.D.Disk.lists c.args.disk.now c.prepare.new.disk c.give_up_mark.new.disk (tree c.prepare.new.disk) (c.prepare.ensures.tree told) settled (c.prepare.ensures.any_moment told)
+    (made_still staged.new.files.place (content c.args.file) staged.new.text.items staged.new.files.bytes_outside staged.new.files.properties_outside g.D.Disk.clock g.D.Disk.lists
+    c.prepare.new.disk c.show_new.new.disk c.give_up_mark.new.disk (c.show_new.ensures.any_moment told) (c.give_up_mark.ensures.any_moment told))
 
 pub returns-in_default-mark-clause-ends : goal.returns-in_default-mark-clause-ends
 returns-in_default-mark-clause-ends g c = λ told some may are s a.
@@ -261,7 +264,8 @@ returns-in-Err-show_new-clause-clean_rows g c =
 pub returns-in-Err-show_new-clause-stays : goal.returns-in-Err-show_new-clause-stays
 returns-in-Err-show_new-clause-stays g c = λ told.
     let tree = g.D.Disk.tree in
-    stay_made (tree c.args.disk.now) (tree c.prepare.new.disk) (tree c.show_new.new.disk) c.in-Ok.staged.new c.in-Ok.ensures.placed (c.in-Ok.ensures.free told) (c.prepare.ensures.tree told) (c.show_new.ensures.rest told)
+    stay_made (tree c.args.disk.now) (tree c.prepare.new.disk) (tree c.give_up_mark.new.disk) c.in-Ok.staged.new c.in-Ok.ensures.placed (c.in-Ok.ensures.free told) (c.prepare.ensures.tree told)
+    (λ n out not_bytes not_props. c.give_up_mark.ensures.tree told n out ∙ c.show_new.ensures.rest told n out not_bytes not_props)
 
 pub returns-in_default-mark-clause-stays : goal.returns-in_default-mark-clause-stays
 returns-in_default-mark-clause-stays g c = λ told.

@@ -41,8 +41,8 @@ returns-in-Some-clause-survives g c =
     (barred_alone (devices g.D.Disk g.T.Keeper) c.args.caller asked found_in c.args.self.now c.turn_away.new.self c.in-Some.why c.look_entry.result
     c.in-Some.ensures (c.look_entry.ensures ∙ ap (λ (r : Reply). record { caller = c.args.caller; call = asked; reply = r }) c.refused.ensures) c.turn_away.ensures.full c.turn_away.ensures.entry).1
 
-pub tell-told-requires : goal.tell-told-requires
-tell-told-requires g c = slice_get_within c.self.inside.holds.items c.args.caller None (ap (λ (v : CoreView g.row.D.Denot g.row.T.Denot). slice_get v.holds c.args.caller) c.self.view_is ∙ c.requires.caller)
+pub tell-reply-requires : goal.tell-reply-requires
+tell-reply-requires g c = slice_get_within c.self.inside.holds.items c.args.caller None (ap (λ (v : CoreView g.row.D.Denot g.row.T.Denot). slice_get v.holds c.args.caller) c.self.view_is ∙ c.requires.caller)
 
 pub returns-clause-called : goal.returns-clause-called
 returns-clause-called g c = rw (← c.self.view_is) (
@@ -54,15 +54,15 @@ returns-clause-called g c = rw (← c.self.view_is) (
     let did = c.give-done in
     let at = did.ensures in
     let old : CoreView g.row.D.Denot g.row.T.Denot = record { disk = core.disk; table = core.table; config = core.config; journal = core.journal; own = core.own; holds = core.holds.items; broken = core.broken } in
-    let left : CoreView g.row.D.Denot g.row.T.Denot = left_by old did.new.disk did.new.table core.own c.tell-told.new.holds.items c.look_entry-2.result c.cause_of-cause.result in
+    let left : CoreView g.row.D.Denot g.row.T.Denot = left_by old did.new.disk did.new.table core.own c.tell-reply.new.holds.items c.look_entry-2.result c.cause_of-cause.result in
     let free : BarredBy old None = subst (λ (k : CoreView g.row.D.Denot g.row.T.Denot). BarredBy k None) (sym c.self.view_is) c.in_default.ensures in
-    let said : reply_of says c.answer_of.result ≡ reply_of found_in c.tell-told.result.answer
-    = reply_same c.answer_of.result ∙ ap (λ (r : Result (GotOf (Download g.row.D-Reader.Denot)) Refusal). reply_of found_in r) (sym c.tell-told.ensures.answer) in
-    let entry_is : c.look_entry-2.result ≡ entry_of c.args.caller asked found_in c.tell-told.result.answer =
-    c.look_entry-2.ensures ∙ ap (λ (r : Reply). record { caller = c.args.caller; call = asked; reply = r }) (c.tell-told.ensures.reply ∙ said) in
-    called_done on ask old c.note.new.self c.tell-told.result.answer c.look_entry-2.result got_given did.result c.len-number.result
-    (answers_as got_given got_of (λ given. refl) (λ why. refl) did.result c.answer_of.result c.tell-told.result.answer c.answer_of.ensures c.tell-told.ensures.answer) free c.len-number.ensures
-    did.new.disk did.new.table core.own c.tell-told.new.holds.items c.cause_of-cause.result c.note.ensures c.cause_of-cause.ensures (ap (λ (e : Entry). e ∷ []) entry_is)
+    let said : reply_of says c.answer_of.result ≡ reply_of found_in c.tell-reply.result.answer
+    = reply_same c.answer_of.result ∙ ap (λ (r : Result (GotOf (Download g.row.D-Reader.Denot)) Refusal). reply_of found_in r) (sym c.tell-reply.ensures.answer) in
+    let entry_is : c.look_entry-2.result ≡ entry_of c.args.caller asked found_in c.tell-reply.result.answer =
+    c.look_entry-2.ensures ∙ ap (λ (r : Reply). record { caller = c.args.caller; call = asked; reply = r }) (c.tell-reply.ensures.reply ∙ said) in
+    called_done on ask old c.note.new.self c.tell-reply.result.answer c.look_entry-2.result got_given did.result c.len-number.result
+    (answers_as got_given got_of (λ given. refl) (λ why. refl) did.result c.answer_of.result c.tell-reply.result.answer c.answer_of.ensures c.tell-reply.ensures.answer) free c.len-number.ensures
+    did.new.disk did.new.table core.own c.tell-reply.new.holds.items c.cause_of-cause.result c.note.ensures c.cause_of-cause.ensures (ap (λ (e : Entry). e ∷ []) entry_is)
     (worked_quietly on ask (config_of core.config) (parts_of old) (parts_of left) did.result (λ s image has. inl has) (record { files = λ told n out. ap (λ (t : Tree). t n) (at.tree told); moments = at.any_moment }) at.clean_rows (λ _. refl) at.disk_cause at.keeper_cause)
     (λ told some _ s a.
     let next = next_done (config_of core.config) (length core.journal.entries) c.args.caller s asked says (StandFor on (config_of core.config) (parts_of left)) did.result
@@ -88,15 +88,15 @@ returns-clause-survives g c = rw (← c.self.view_is) (
     let did = c.give-done in
     let at = did.ensures in
     let old : CoreView g.row.D.Denot g.row.T.Denot = record { disk = core.disk; table = core.table; config = core.config; journal = core.journal; own = core.own; holds = core.holds.items; broken = core.broken } in
-    let left : CoreView g.row.D.Denot g.row.T.Denot = left_by old did.new.disk did.new.table core.own c.tell-told.new.holds.items c.look_entry-2.result c.cause_of-cause.result in
+    let left : CoreView g.row.D.Denot g.row.T.Denot = left_by old did.new.disk did.new.table core.own c.tell-reply.new.holds.items c.look_entry-2.result c.cause_of-cause.result in
     let free : BarredBy old None = subst (λ (k : CoreView g.row.D.Denot g.row.T.Denot). BarredBy k None) (sym c.self.view_is) c.in_default.ensures in
-    let said : reply_of says c.answer_of.result ≡ reply_of found_in c.tell-told.result.answer
-    = reply_same c.answer_of.result ∙ ap (λ (r : Result (GotOf (Download g.row.D-Reader.Denot)) Refusal). reply_of found_in r) (sym c.tell-told.ensures.answer) in
-    let entry_is : c.look_entry-2.result ≡ entry_of c.args.caller asked found_in c.tell-told.result.answer =
-    c.look_entry-2.ensures ∙ ap (λ (r : Reply). record { caller = c.args.caller; call = asked; reply = r }) (c.tell-told.ensures.reply ∙ said) in
-    survives_done on ask old c.note.new.self c.tell-told.result.answer c.look_entry-2.result got_given did.result c.len-number.result
-    (answers_as got_given got_of (λ given. refl) (λ why. refl) did.result c.answer_of.result c.tell-told.result.answer c.answer_of.ensures c.tell-told.ensures.answer) free c.len-number.ensures
-    did.new.disk did.new.table core.own c.tell-told.new.holds.items c.cause_of-cause.result c.note.ensures c.cause_of-cause.ensures (ap (λ (e : Entry). e ∷ []) entry_is)
+    let said : reply_of says c.answer_of.result ≡ reply_of found_in c.tell-reply.result.answer
+    = reply_same c.answer_of.result ∙ ap (λ (r : Result (GotOf (Download g.row.D-Reader.Denot)) Refusal). reply_of found_in r) (sym c.tell-reply.ensures.answer) in
+    let entry_is : c.look_entry-2.result ≡ entry_of c.args.caller asked found_in c.tell-reply.result.answer =
+    c.look_entry-2.ensures ∙ ap (λ (r : Reply). record { caller = c.args.caller; call = asked; reply = r }) (c.tell-reply.ensures.reply ∙ said) in
+    survives_done on ask old c.note.new.self c.tell-reply.result.answer c.look_entry-2.result got_given did.result c.len-number.result
+    (answers_as got_given got_of (λ given. refl) (λ why. refl) did.result c.answer_of.result c.tell-reply.result.answer c.answer_of.ensures c.tell-reply.ensures.answer) free c.len-number.ensures
+    did.new.disk did.new.table core.own c.tell-reply.new.holds.items c.cause_of-cause.result c.note.ensures c.cause_of-cause.ensures (ap (λ (e : Entry). e ∷ []) entry_is)
     (worked_quietly on ask (config_of core.config) (parts_of old) (parts_of left) did.result (λ s image has. inl has) (record { files = λ told n out. ap (λ (t : Tree). t n) (at.tree told); moments = at.any_moment }) at.clean_rows (λ _. refl) at.disk_cause at.keeper_cause))
 
 pub returns-clause-content : goal.returns-clause-content
@@ -104,7 +104,7 @@ returns-clause-content g c = rw (← c.self.view_is) (λ told some s tracks.
     let core = c.self.inside in
     let none : core.broken ≡ None = search rules in
     let still : IsSome (g.T.Keeper.table c.give-done.new.table) = subst (λ (k : CoreView g.row.D.Denot g.row.T.Denot). IsSome (g.T.Keeper.table k.table)) c.note.ensures some in
-    rw (c.tell-told.ensures.answer, c.answer_of.ensures)
+    rw (c.tell-reply.ensures.answer, c.answer_of.ensures)
     (given_holds (GotContent g.D.Reader.Reader.left) c.give-done.result (c.give-done.ensures.content told still core.own s (tracks.agrees none))))
 
 pub returns-clause-whole : goal.returns-clause-whole
@@ -113,4 +113,4 @@ returns-clause-whole g c = rw (← c.self.view_is) (λ told some s tracks size f
     let none : core.broken ≡ None = search rules in
     let still : IsSome (g.T.Keeper.table c.give-done.new.table) = subst (λ (k : CoreView g.row.D.Denot g.row.T.Denot). IsSome (g.T.Keeper.table k.table)) c.note.ensures some in
     c.give-done.ensures.whole told still core.own s (tracks.agrees none) size found
-    (damage_from c.give-done.result size found (sym (c.tell-told.ensures.answer ∙ ap got_of c.answer_of.ensures) ∙ is)))
+    (damage_from c.give-done.result size found (sym (c.tell-reply.ensures.answer ∙ ap got_of c.answer_of.ensures) ∙ is)))

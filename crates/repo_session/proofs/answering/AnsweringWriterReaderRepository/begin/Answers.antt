@@ -1,11 +1,14 @@
 -- An upload that was begun waits for its content, and one that wasn't is answered.
-use Rattle.std.proofs.Common.{Ok, Err, refl, sym, true≢false}
+use Rattle.std.proofs.Common.{Ok, Err, Option, refl, sym, ap, true≢false}
+use Rattle.std.specs.Option.{option_map}
 use Rattle.repo_model.specs.declared.call.Call.TheVariants as call
 use Rattle.repo_core.specs.Begun.{begun_in}
 use Rattle.repo_core.specs.Devices.{devices}
+use Rattle.repo_session.specs.declared.open_upload.OpenUpload.{OpenUpload}
 use Rattle.repo_session.proofs.Beginnings.{called_of, upload_begun}
 use Rattle.repo_session.proofs.CoreCalls.{asked_plain}
 use Rattle.repo_session.proofs.Denials.{upload_denied, upload_not_asked}
+use Rattle.repo_session.proofs.Lookings.{called_behind}
 use Rattle.repo_session.proofs.Replied.{drew, each_answered}
 use Rattle.repo_session.proofs.answering.AnsweringWriterReaderRepository.begin.Goals as goal
 
@@ -20,8 +23,8 @@ returns-in-Ok-begin g c = λ head is put.
       λ yes. record {
         draws = refl;
         upload = c.in-Ok-begin.upload;
-        kept = refl;
-        begun = upload_begun _ g.D.Writer.Writer.told g.D.Writer.Writer.written _ _ c.args.begin head c.in-Ok-begin.upload is called done.begun.target done.begun.may_go done.taken;
+        kept = ap (λ (u : Option (OpenUpload g.row.D-Writer.Denot)). option_map (λ o. o.upload) u) c.keep.ensures;
+        begun = upload_begun _ g.D.Writer.Writer.told g.D.Writer.Writer.written _ _ c.args.begin head c.in-Ok-begin.upload is (called_behind _ _ _ _ _ _ _ _ c.stop_open.ensures.rests called) done.begun.target done.begun.may_go done.taken;
       },
       λ no. absurd (true≢false no),
     )
@@ -33,5 +36,5 @@ returns-in-Err g c = λ head is put. (
       let done = c.in-Err.ensures in
       let called = asked_plain (devices g.D.Disk g.T.Keeper) _ _ (call.Begin _) begun_in (Err c.in-Err.refusal) tt refl (λ v. (λ e. cc, λ e. cc)) (λ v made e. cc) done.called done.survives in
       each_answered _ _ _ head _ c.draw-in-Err.result (drew _ _ c.draw-in-Err.result c.draw-in-Err.ensures.value c.draw-in-Err.ensures.moments c.draw-in-Err.ensures.next)
-      (upload_denied _ _ _ head c.in-Err.refusal c.draw-in-Err.result put (called_of _ _ _ c.args.begin head _ is called)),
+      (upload_denied _ _ _ head c.in-Err.refusal c.draw-in-Err.result put (called_of _ _ _ c.args.begin head _ is (called_behind _ _ _ _ _ _ _ _ c.stop_open.ensures.rests called))),
 )

@@ -1,5 +1,5 @@
 -- What the core gave is replied, and what it opened is open.
-use Rattle.std.proofs.Common.{Option, refl, sym, subst}
+use Rattle.std.proofs.Common.{Option, refl, sym, ◌∙◌, subst}
 use Rattle.blob_files.specs.declared.download.Download.{Download}
 use Rattle.repo_model.specs.declared.call.Call.TheVariants as call
 use Rattle.repo_model.specs.declared.call.RemoteSaid.TheVariants as remote
@@ -14,7 +14,7 @@ use Rattle.repo_session.proofs.answering.AnsweringWriterReaderRepository.look.Go
 
 pub invariant_of-self : goal.invariant_of-self
 invariant_of-self g c = record {
-  free = subst (λ (f : Option (Download g.row.D-Reader.Denot)). IsFree f c.get-got.new.self.holds) (sym c.looked-said.ensures.opened)
+  free = subst (λ (f : Option (Download g.row.D-Reader.Denot)). IsFree f c.get-got.new.self.holds) (sym (c.keep.ensures ∙ c.looked-said.ensures.opened))
       (free_after _ c.let_go.new.core.holds c.get-got.new.self.holds c.get-got.result c.let_go.ensures.free c.get-got.ensures.holds);
 }
 
@@ -32,4 +32,4 @@ returns g c = λ head asked.
     (λ told some s contents stands.
     look_gives on g.D.Reader.Reader.left g.D.Reader.Reader.size g.D.Reader.Reader.faults old new c.args.key c.args.look moment s contents stands c.get-got.result got.called told some
     got.opened (got.file told) (got.content told some s stands.tracks))
-    got.kind c.looked-said.ensures.reply c.looked-said.ensures.opened
+    got.kind c.looked-said.ensures.reply (c.keep.ensures ∙ c.looked-said.ensures.opened)
