@@ -1,5 +1,5 @@
 -- How a call that a core didn't take keeps what each call keeps (specs/Called.antt, specs/Survives.antt).
-use Rattle.std.proofs.Common.{◌≡◌, inl, inr, ℕ, List, [], ◌∷◌, length, IsSome, OnErr, IfErr, Option, Some, None, Result, Err, refl, sym, ◌∙◌, ap, subst, arith, append-nil}
+use Rattle.std.proofs.Common.{◌≡◌, ◌⊎◌, inl, inr, ℕ, List, [], ◌∷◌, length, IsSome, OnErr, IfErr, Option, Some, None, Result, Err, refl, sym, ◌∙◌, ap, subst, arith, append-nil}
 use Rattle.std.proofs.lemmas.Bool.{cases_lt}
 use Rattle.nx_io.specs.Causes.{HasCauseWhere, Rose}
 use Rattle.repo_model.specs.declared.call.Call.{Call}
@@ -23,16 +23,17 @@ use Rattle.repo_core.specs.Rows.{contents_in}
 use Rattle.repo_core.specs.Answers.{IsFull, HasRoom, with_entry}
 use Rattle.repo_core.specs.Asks.{Ask, TookBack, asks, asks_to_store}
 use Rattle.repo_core.specs.Barred.{BarredBy}
-use Rattle.repo_core.specs.Called.{LeadsBy, Moved, IsBarred, Called}
+use Rattle.repo_core.specs.Called.{LeadsBy, Moved, IsBarred, Called, parts_of}
 use Rattle.repo_core.specs.Devices.{Devices}
 use Rattle.repo_core.specs.Faults.{IsDisk, IsKeeper, RefusedBy}
 use Rattle.repo_core.specs.Parts.{AreUntouched}
 use Rattle.repo_core.specs.Standing.{Tracks, AnswersAt}
 use Rattle.repo_core.specs.Stores.{homes_of}
-use Rattle.repo_core.specs.Survives.{Survives, parts_of}
+use Rattle.repo_core.specs.Survives.{Survives}
 use Rattle.repo_core.specs.View.{CoreView}
 use Rattle.repo_core.proofs.CallsMade.{full_or_room}
 use Rattle.repo_core.proofs.Finishings.{follows_broken, outcome_broken}
+use Rattle.repo_core.proofs.Rests.{rest_quiet, tells_still}
 use Rattle.repo_core.proofs.Runs.{nothing_ran}
 use Rattle.repo_core.proofs.WorkAnswers.{some_none, err_same}
 use Rattle.repo_core.proofs.Works.{crash_before, durable_quiet, stays_quiet}
@@ -45,10 +46,6 @@ broken_not_full cause e = cc
 
 broken_same : (a b : Cause) → refusal.Broken a ≡ refusal.Broken b → a ≡ b
 broken_same a b e = cc
-
-tells_same : (table : Option Table) → Tells table table (λ s t. t ≡ s)
-tells_same None = tt
-tells_same (Some t) = refl
 
 -- an entry by which the state leads on, also at the store of its upload
 pub leads_one : (store : Option (List ℕ)) (config : Config) (number : ℕ) (s : State) (entry : Entry) (new : State) → Follows config number s entry new
@@ -157,6 +154,7 @@ module _ {D T A : Type 0} (on : Devices D T) (ask : Ask D A) (old new : CoreView
         ];
         moves = λ told some fits premise s tracks. goes_on fits s tracks;
         tells = λ some. subst (λ (t : T). IsSome (on.table t)) same_table some;
+        lasting = λ lasts some. subst (λ (t : T). IsSome (on.table t)) (sym same_table) some;
         config = ap (λ (core : CoreView D T). core.config) rest;
         disk_cause = quiet IsDisk (on.disk_faults old.disk) (on.disk_faults new.disk) back.faults (no_fault IsDisk);
         keeper_cause = quiet IsKeeper (on.keeper_faults old.table) (on.keeper_faults new.table) (ap on.keeper_faults same_table) (no_fault IsKeeper);
@@ -178,6 +176,7 @@ module _ {D T A : Type 0} (on : Devices D T) (ask : Ask D A) (old new : CoreView
         ];
         moves = λ told some room premise s tracks. full_or_room _ old.journal full room;
         tells = λ some. subst (λ (t : T). IsSome (on.table t)) same_table some;
+        lasting = λ lasts some. subst (λ (t : T). IsSome (on.table t)) (sym same_table) some;
         config = ap (λ (core : CoreView D T). core.config) rest;
         disk_cause = quiet IsDisk (on.disk_faults old.disk) (on.disk_faults new.disk) back.faults (no_fault IsDisk);
         keeper_cause = quiet IsKeeper (on.keeper_faults old.table) (on.keeper_faults new.table) (ap on.keeper_faults same_table) (no_fault IsKeeper);
@@ -191,10 +190,13 @@ module _ {D T A : Type 0} (on : Devices D T) (ask : Ask D A) (old new : CoreView
           crash_before (config_of old.config) (on.tree old.disk) s (tracks.agrees none).files on.clock on.lists old.disk new.disk (ask.leaves (config_of old.config) s) (before (config_of old.config) s) settled (back.quiet.moments told);
       durable = λ told none settled. durable_quiet on old.disk new.disk back.quiet told settled;
       stays = λ told none. stays_quiet on old.disk new.disk back.quiet told;
+      rest = λ told some premise s tracks none. rest_quiet on (ask.touches s) told old.disk new.disk back.quiet;
+      table = subst (λ (t : T). Tells (on.table old.table) (on.table t) (λ a b. (b ≡ a) ⊎ ask.alters a b)) (sym same_table) (tells_still (λ a b. (b ≡ a) ⊎ ask.alters a b) (λ t. inl refl) (on.table old.table));
       clean = λ none. subst (λ (r : Result A Refusal). OnErr r (AreUntouched on (parts_of old) (parts_of new))) (sym answer) (record {
         unseen = record {
           quiet = back.quiet;
-          rows = subst (λ (t : T). Tells (on.table old.table) (on.table t) (λ a b. b ≡ a)) (sym same_table) (tells_same (on.table old.table));
+          rows = subst (λ (t : T). Tells (on.table old.table) (on.table t) (λ a b. b ≡ a)) (sym same_table) (tells_still (λ a b. b ≡ a) (λ t. refl) (on.table old.table));
+          changes = ap on.changes same_table;
         };
         own = ap (λ (core : CoreView D T). core.own) rest;
       });
@@ -203,29 +205,29 @@ module _ {D T A : Type 0} (on : Devices D T) (ask : Ask D A) (old new : CoreView
 -- a disk on which no call was made
 pub idle : {D T : Type 0} (on : Devices D T) (old new : D) → new ≡ old → TookBack on old new
 idle on old new same = subst (λ (d : _). TookBack on old d) (sym same) (record {
-  quiet = record { files = λ told n out. refl; moments = λ told. nothing_ran on.clock on.lists old };
+  quiet = record { files = λ told n out. refl; moments = λ told. nothing_ran on.clock on.lists old; shown = refl };
   faults = refl;
 })
 
-module _ {D T A : Type 0} (on : Devices D T) (caller : ℕ) (c : Call) (says : A → Reply) (old new : CoreView D T) (why : Refusal) (entry : Entry) (by : BarredBy old (Some why))
+module _ {D T A : Type 0} (on : Devices D T) (caller : ℕ) (c : Call) (says : A → Reply) (touches : State → List ℕ → Type 0) (alters : Table → Table → Type 0) (old new : CoreView D T) (why : Refusal) (entry : Entry) (by : BarredBy old (Some why))
     (entry_is : entry ≡ record { caller = caller; call = c; reply = reply.Refused why }) where
   -- A call to which nothing was handed was barred.
   pub barred_alone : (IsFull old.journal → new ≡ old) → (HasRoom old.journal → new ≡ record old { journal = with_entry old.journal entry })
-      → Called on (asks caller c says) old new (Err why) × Survives on (asks caller c says) old new (Err why)
+      → Called on (asks caller c says touches alters) old new (Err why) × Survives on (asks caller c says touches alters) old new (Err why)
   barred_alone full room =
       let away : WasTurnedAway old new entry = away_after old old new entry refl full room in
       let same : new.disk ≡ old.disk = same_disk old new entry full room in (
-        called_barred on (asks caller c says) old new (Err why) entry caller c why by refl entry_is away (ap (λ (e : Entry). e ∷ []) entry_is) same (idle on old.disk new.disk same),
-        survives_barred on (asks caller c says) old new (Err why) entry caller c why by refl entry_is away (ap (λ (e : Entry). e ∷ []) entry_is) same (idle on old.disk new.disk same) (λ config s image has. inl has),
+        called_barred on (asks caller c says touches alters) old new (Err why) entry caller c why by refl entry_is away (ap (λ (e : Entry). e ∷ []) entry_is) same (idle on old.disk new.disk same),
+        survives_barred on (asks caller c says touches alters) old new (Err why) entry caller c why by refl entry_is away (ap (λ (e : Entry). e ∷ []) entry_is) same (idle on old.disk new.disk same) (λ config s image has. inl has),
       )
 
   -- A call that was to store a file was barred, and the file given up before.
   pub barred_with_file : (store : List ℕ) (premise : Type 0) (mid : CoreView D T) → mid ≡ record old { disk = mid.disk } → TookBack on old.disk mid.disk
       → (IsFull mid.journal → new ≡ mid) → (HasRoom mid.journal → new ≡ record mid { journal = with_entry mid.journal entry })
-      → Called on (asks_to_store on caller c says store premise) old new (Err why) × Survives on (asks_to_store on caller c says store premise) old new (Err why)
+      → Called on (asks_to_store on caller c says touches alters store premise) old new (Err why) × Survives on (asks_to_store on caller c says touches alters store premise) old new (Err why)
   barred_with_file store premise mid rest back full room =
       let away : WasTurnedAway old new entry = away_after old mid new entry rest full room in
       let took : TookBack on old.disk new.disk = subst (λ (d : D). TookBack on old.disk d) (sym (same_disk mid new entry full room)) back in (
-        called_barred on (asks_to_store on caller c says store premise) old new (Err why) entry caller c why by refl entry_is away (ap (λ (e : Entry). e ∷ []) entry_is) took took,
-        survives_barred on (asks_to_store on caller c says store premise) old new (Err why) entry caller c why by refl entry_is away (ap (λ (e : Entry). e ∷ []) entry_is) took took (λ config s image has. inl has),
+        called_barred on (asks_to_store on caller c says touches alters store premise) old new (Err why) entry caller c why by refl entry_is away (ap (λ (e : Entry). e ∷ []) entry_is) took took,
+        survives_barred on (asks_to_store on caller c says touches alters store premise) old new (Err why) entry caller c why by refl entry_is away (ap (λ (e : Entry). e ∷ []) entry_is) took took (λ config s image has. inl has),
       )

@@ -13,16 +13,16 @@ use Rattle.repo_core.specs.declared.stop.Stop.{Stop}
 use Rattle.repo_core.specs.Answers.{IsFull, HasRoom, with_entry, cause_of}
 use Rattle.repo_core.specs.Asks.{Ask}
 use Rattle.repo_core.specs.Barred.{BarredBy}
-use Rattle.repo_core.specs.Called.{LeadsBy, Moved, Called}
+use Rattle.repo_core.specs.Called.{LeadsBy, Moved, Called, parts_of}
 use Rattle.repo_core.specs.Devices.{Devices}
 use Rattle.repo_core.specs.Faults.{IsDisk, IsKeeper}
 use Rattle.repo_core.specs.Parts.{StandFor, AreUntouched}
-use Rattle.repo_core.specs.Survives.{Survives, parts_of}
+use Rattle.repo_core.specs.Survives.{Survives}
 use Rattle.repo_core.specs.View.{CoreView}
 use Rattle.repo_core.specs.Worked.{IsAnswerOf, Worked}
 use Rattle.repo_core.proofs.Breaks.{broke_number, broke_disk, broke_keeper}
 use Rattle.repo_core.proofs.Finishings.{not_broke}
-use Rattle.repo_core.proofs.WorkAnswers.{some_none, answered_cause, never_full, never_broken, if_denied}
+use Rattle.repo_core.proofs.WorkAnswers.{some_none, was_broke, answered_cause, never_full, never_broken, if_denied}
 
 pub full_or_room : (P : Type 0) (journal : JournalView) → IsFull journal → HasRoom journal → P
 full_or_room P journal full room = absurd (omega (arith, full, room))
@@ -67,6 +67,7 @@ module _ {D T A : Type 0} (on : Devices D T) (ask : Ask D A) (old new : CoreView
       only_broken = λ what told. absurd (never_broken says what done result is told);
       moves = λ told some _ premise s tracks. moved_by on ask.store old left entry s (next told some premise s (tracks.agrees sound));
       tells = work.tells;
+      lasting = work.lasting;
       config = refl;
       disk_cause = record {
         later = work.disk_cause.later;
@@ -80,6 +81,7 @@ module _ {D T A : Type 0} (on : Devices D T) (ask : Ask D A) (old new : CoreView
         number = broke_number done number cause caused what broke ∙ numbered;
         disk = broke_disk done number cause caused what broke (on.disk_faults old.disk) (on.disk_faults disk) work.disk_cause;
         keeper = broke_keeper done number cause caused what broke (on.keeper_faults old.table) (on.keeper_faults table) work.keeper_cause;
+        behind = work.behind (was_broke done number cause caused what broke);
       };
     })
 
@@ -88,5 +90,7 @@ module _ {D T A : Type 0} (on : Devices D T) (ask : Ask D A) (old new : CoreView
       crash = λ told some premise s tracks none settled. work.crash told some premise s (tracks.agrees none) settled;
       durable = λ told none settled. work.durable told (not_broke number done cause caused none) settled;
       stays = λ told none. work.stays told;
+      rest = λ told some premise s tracks none. work.rest told some premise s (tracks.agrees none);
+      table = work.table;
       clean = λ none. if_denied says (AreUntouched on (parts_of old) (parts_of left)) number done result cause is caused none work.clean;
     })

@@ -1,5 +1,5 @@
 -- A run that makes the files of a blob, and then one by which nothing can be seen.
-use Rattle.std.proofs.Common.{inl, inr, ⊎_elim, ℕ, List, Option, Some, ◌∙◌, subst}
+use Rattle.std.proofs.Common.{inl, inr, ⊎_elim, ℕ, List, Option, ◌∙◌, subst}
 use Rattle.disk_model.specs.Disk.{Lists, Outside, Same, Among}
 use Rattle.disk_model.specs.Moments.{During}
 use Rattle.disk_model.proofs.Chain.{and_then, weaker}

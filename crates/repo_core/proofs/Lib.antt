@@ -24,8 +24,11 @@ pub mod Stays
 pub mod Breaks
 pub mod Choices
 pub mod WorkAnswers
+pub mod Whys
+pub mod Rests
+pub mod GivenUp
+pub mod Texts
 pub mod Works
 pub mod Returnings
 pub mod CallsMade
 pub mod Barrings
-pub mod GivenUp

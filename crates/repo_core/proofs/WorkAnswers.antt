@@ -10,7 +10,7 @@ use Rattle.repo_core.specs.declared.denial.Denial.{Denial}
 use Rattle.repo_core.specs.declared.denial.Denial.TheVariants as denial
 use Rattle.repo_core.specs.declared.stop.Stop.{Stop}
 use Rattle.repo_core.specs.declared.stop.Stop.TheVariants as stop
-use Rattle.repo_core.specs.Answers.{answer_of, cause_of, is_denied, stopped}
+use Rattle.repo_core.specs.Answers.{answer_of, cause_of, is_denied, is_broke, stopped}
 use Rattle.repo_core.specs.Faults.{DeniedBy, StoppedBy, RefusedBy, refusal_for, refusal_of_fault}
 use Rattle.repo_core.specs.Worked.{IsAnswerOf}
 
@@ -97,6 +97,12 @@ module _ {X A : Type 0} (says : X → A) where
   if_denied P number (Err (stop.Denied why)) result broken is cause none go = subst (λ (r : Result A Refusal). OnErr r P) (sym is) (go refl)
   if_denied P number (Err (stop.Broke what)) result broken is cause none go = absurd (some_none broken (record { fault = what; entry = number }) none cause)
 
+-- what is broken by the call was stopped halfway
+pub was_broke : {X : Type 0} (done : Result X Stop) (number : ℕ) (broken : Option Cause) → broken ≡ cause_of number done → (cause : Cause) → broken ≡ Some cause → is_broke done ≡ true
+was_broke (Ok value) number broken is cause broke = absurd (some_none broken cause is broke)
+was_broke (Err (stop.Denied why)) number broken is cause broke = absurd (some_none broken cause is broke)
+was_broke (Err (stop.Broke what)) number broken is cause broke = refl
+
 -- what the work comes to is the answer
 pub answers : {X : Type 0} (done : Result X Stop) (said : Result X Refusal) → said ≡ answer_of done → IsAnswerOf (λ (value : X). value) done said
 answers (Ok value) said is = is
@@ -123,6 +129,10 @@ pub stopped_answers : {X A : Type 0} (says : X → A) (shown : Result X Denial �
     → (done : Result X Denial) (result : Result A Refusal) → result ≡ shown done → IsAnswerOf says (stopped done) result
 stopped_answers says shown ok err (Ok value) result is = is ∙ ok value
 stopped_answers says shown ok err (Err why) result is = is ∙ err why
+
+pub never_stopped : {A : Type 0} (P : Type 0) (done : Result A Denial) → is_broke (stopped done) ≡ true → P
+never_stopped P (Ok value) broke = cc
+never_stopped P (Err why) broke = cc
 
 pub if_stopped : {A : Type 0} (P : Type 0) (done : Result A Denial) → OnErr done P → is_denied (stopped done) ≡ true → P
 if_stopped P (Ok value) holds denied = cc

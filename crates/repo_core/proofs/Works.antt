@@ -1,13 +1,13 @@
 -- What the work of a call keeps, from what each work promises clause by clause.
-use Rattle.std.proofs.Common.{◌≡◌, ℕ, true, false, IsSome, Result}
-use Rattle.nx_io.specs.Causes.{HasCauseWhere}
+use Rattle.std.proofs.Common.{◌≡◌, ◌⊎◌, inr, ℕ, true, false, IsSome, Result}
+use Rattle.nx_io.specs.Causes.{HasCauseWhere, Rose}
 use Rattle.repo_model.specs.Config.{Config}
 use Rattle.repo_model.specs.State.{State}
 use Rattle.disk_model.specs.Disk.{Tree, Lists, Same}
 use Rattle.disk_model.specs.Moments.{During, Settled, EachImage}
 use Rattle.disk_model.proofs.Chain.{weaker}
 use Rattle.disk_model.proofs.Images.{same_image, settled_same}
-use Rattle.asset_keeper.specs.Told.{Tells}
+use Rattle.asset_keeper.specs.Told.{Tells, Lasts}
 use Rattle.tree_content.specs.Contents.{HasContents}
 use Rattle.repo_core.specs.declared.stop.Stop.{Stop}
 use Rattle.repo_core.specs.Agree.{FilesAgree}
@@ -15,7 +15,7 @@ use Rattle.repo_core.specs.Answers.{is_denied, is_broke}
 use Rattle.repo_core.specs.Asks.{Ask}
 use Rattle.repo_core.specs.Devices.{Devices}
 use Rattle.repo_core.specs.Faults.{IsDisk, IsKeeper, StoppedBy}
-use Rattle.repo_core.specs.Parts.{Parts, StandFor, IsQuiet}
+use Rattle.repo_core.specs.Parts.{Parts, StandFor, KeepsRest, IsQuiet, HasShown}
 use Rattle.repo_core.specs.Rows.{contents_in}
 use Rattle.repo_core.specs.Standing.{IsDurable}
 use Rattle.repo_core.specs.Stays.{BytesStay}
@@ -23,6 +23,7 @@ use Rattle.repo_core.specs.Stores.{homes_of}
 use Rattle.repo_core.specs.Worked.{Worked}
 use Rattle.repo_core.proofs.Answering.{tells_map}
 use Rattle.repo_core.proofs.Givings.{same_contents}
+use Rattle.repo_core.proofs.Rests.{rest_quiet}
 use Rattle.repo_core.proofs.Runs.{at_end}
 use Rattle.repo_core.proofs.Stays.{stay_same}
 use Rattle.repo_core.proofs.Tables.{still_told}
@@ -52,24 +53,34 @@ pub worked_by : {D T X A : Type 0} (on : Devices D T) (ask : Ask D A) (config : 
     → During on.clock on.lists old.disk new.disk (EachImage (ask.leaves config s)))
     → (on.told → is_broke done ≡ false → IsDurable on.tree on.clock on.lists old.disk → IsDurable on.tree on.clock on.lists new.disk)
     → (on.told → BytesStay (on.tree old.disk) (on.tree new.disk))
+    → (on.told → IsSome (on.table new.table) → ask.premise → (s : State) → StandFor on config old s → KeepsRest on (ask.touches s) old.disk new.disk)
+    → Tells (on.table old.table) (on.table new.table) (λ s t. (t ≡ s) ⊎ ask.alters s t)
     → (on.told → is_denied done ≡ true → Same (on.tree old.disk) (on.tree new.disk))
     → (on.told → is_denied done ≡ true → During on.clock on.lists old.disk new.disk (Same (on.lists old.disk (on.clock old.disk))))
     → Tells (on.table old.table) (on.table new.table) (λ s t. is_denied done ≡ true → t ≡ s)
     → (is_denied done ≡ true → new.own ≡ old.own)
+    → (is_broke done ≡ true → HasShown on old new)
+    → (is_denied done ≡ true → (on.shown new.disk ≡ on.shown old.disk) × (on.changes new.table ≡ on.changes old.table))
+    → Lasts on.lasts (on.table old.table) (on.table new.table)
     → HasCauseWhere (StoppedBy IsDisk) (on.disk_faults old.disk) (on.disk_faults new.disk) done
     → HasCauseWhere (StoppedBy IsKeeper) (on.keeper_faults old.table) (on.keeper_faults new.table) done
     → Worked on ask config old new done
-worked_by on ask config old new done crash durable stays files moments rows own disk keeper = record {
+worked_by on ask config old new done crash durable stays rest table files moments rows own behind unshown lasting disk keeper = record {
   crash = crash;
   durable = durable;
   stays = stays;
+  rest = rest;
+  table = table;
   clean = λ denied. record {
     unseen = record {
-      quiet = record { files = λ told. files told denied; moments = λ told. moments told denied };
+      quiet = record { files = λ told. files told denied; moments = λ told. moments told denied; shown = (unshown denied).0 };
       rows = tells_map (λ s t. is_denied done ≡ true → t ≡ s) (λ s t. t ≡ s) (on.table old.table) (on.table new.table) (λ s t same. same denied) rows;
+      changes = (unshown denied).1;
     };
     own = own denied;
   };
+  behind = behind;
+  lasting = lasting;
   tells = λ some. still_told (λ s t. is_denied done ≡ true → t ≡ s) (on.table old.table) (on.table new.table) some rows;
   disk_cause = disk;
   keeper_cause = keeper;
@@ -79,13 +90,17 @@ worked_by on ask config old new done crash durable stays files moments rows own 
 pub worked_quietly : {D T X A : Type 0} (on : Devices D T) (ask : Ask D A) (config : Config) (old new : Parts D T) (done : Result X Stop)
     → ((s : State) (image : Tree) → HasContents (homes_of config) (contents_in s.rows) image → ask.leaves config s image)
     → IsQuiet on old.disk new.disk
+    → Tells (on.table old.table) (on.table new.table) (λ s t. (t ≡ s) ⊎ ask.alters s t)
     → Tells (on.table old.table) (on.table new.table) (λ s t. is_denied done ≡ true → t ≡ s) → (is_denied done ≡ true → new.own ≡ old.own)
+    → (is_broke done ≡ true → Rose (on.changes old.table) (on.changes new.table)) → (is_denied done ≡ true → on.changes new.table ≡ on.changes old.table)
+    → Lasts on.lasts (on.table old.table) (on.table new.table)
     → HasCauseWhere (StoppedBy IsDisk) (on.disk_faults old.disk) (on.disk_faults new.disk) done
     → HasCauseWhere (StoppedBy IsKeeper) (on.keeper_faults old.table) (on.keeper_faults new.table) done
     → Worked on ask config old new done
-worked_quietly on ask config old new done before quiet rows own disk keeper =
+worked_quietly on ask config old new done before quiet table rows own behind unchanged lasting disk keeper =
     worked_by on ask config old new done
     (λ told some _ s a settled. crash_before config (on.tree old.disk) s a.files on.clock on.lists old.disk new.disk (ask.leaves config s) (before s) settled (quiet.moments told))
     (λ told _ settled. durable_quiet on old.disk new.disk quiet told settled)
     (λ told. stays_quiet on old.disk new.disk quiet told)
-    (λ told _. quiet.files told) (λ told _. quiet.moments told) rows own disk keeper
+    (λ told some _ s a. rest_quiet on (ask.touches s) told old.disk new.disk quiet) table
+    (λ told _. quiet.files told) (λ told _. quiet.moments told) rows own (λ broke. inr (behind broke)) (λ denied. (quiet.shown, unchanged denied)) lasting disk keeper

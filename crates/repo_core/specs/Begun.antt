@@ -62,8 +62,9 @@ abbrev pub EndsBegin : {W : Type 0} → Config → State → Begin → (State �
 EndsBegin config s begin agrees (Ok begun) = (new : State) × Step config s (call.Begin begin) (begun_in begun.upload) new × agrees new
 EndsBegin config s begin agrees (Err why) = Denies config s (call.Begin begin) why × agrees s
 
--- An upload that has just begun: it is of this begin, the key's repository may write to its store, and its writer hasn't failed.
+-- An upload that has just begun: it is of this begin, the key's repository may write to its store, its writer hasn't failed, and it isn't dead.
 pub record IsBegunFor {W : Type 0} (faults : W → ℕ) (config : Config) (begin : Begin) (upload : Upload W) : Type 0 where
   pub target : option_map (λ (t : Target). t.begin) upload.target ≡ Some begin
   pub may_go : (t : Target) → upload.target ≡ Some t → MayGo config begin.key t.store
   pub sound : faults upload.writer ≡ 0
+  pub alive : upload.dead ≡ false

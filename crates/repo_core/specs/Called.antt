@@ -11,12 +11,18 @@ use Rattle.repo_model.specs.State.{State}
 use Rattle.repo_model.specs.History.{Follows}
 use Rattle.repo_model.specs.Journal.{JournalView}
 use Rattle.repo_model.specs.Plain.{config_of}
+use Rattle.asset_keeper.specs.Told.{Lasts}
 use Rattle.repo_core.specs.Answers.{IsFull, HasRoom}
 use Rattle.repo_core.specs.Asks.{Ask}
 use Rattle.repo_core.specs.Devices.{Devices}
 use Rattle.repo_core.specs.Faults.{IsDisk, IsKeeper, RefusedBy}
+use Rattle.repo_core.specs.Parts.{Parts, HasShown}
 use Rattle.repo_core.specs.Standing.{Tracks, AnswersAt}
 use Rattle.repo_core.specs.View.{CoreView}
+
+-- the parts on which the work of a call goes
+abbrev pub parts_of : {D T : Type 0} → CoreView D T → Parts D T
+parts_of core = record { disk = core.disk; table = core.table; own = core.own }
 
 -- the journal with these entries more
 abbrev pub with_entries : JournalView → List Entry → JournalView
@@ -36,11 +42,13 @@ module _ {D T : Type 0} (on : Devices D T) where
     pub leads : LeadsBy (config_of old.config) (length old.journal.entries) store s entries next
     pub tracks : Tracks on.tree on.table new next
 
-  -- The cause by which a call breaks the core names the call's number in the journal, and a device only where its count rose.
+  -- The cause by which a call breaks the core names the call's number in the journal, and a device only where its count rose; and it came
+  -- behind the first visible step, or by it.
   pub record Breaks (old new : CoreView D T) (cause : Cause) : Type 0 where
     pub number : cause.entry ≡ length old.journal.entries
     pub disk : cause.fault ≡ fault.Disk → Rose (on.disk_faults old.disk) (on.disk_faults new.disk)
     pub keeper : cause.fault ≡ fault.Keeper → Rose (on.keeper_faults old.table) (on.keeper_faults new.table)
+    pub behind : HasShown on (parts_of old) (parts_of new)
 
   module _ {A : Type 0} (ask : Ask D A) (old new : CoreView D T) (result : Result A Refusal) where
     -- The call wasn't made, for that reason: all but the journal stays, and what was handed in is given up.
@@ -63,8 +71,9 @@ module _ {D T : Type 0} (on : Devices D T) where
       pub only_broken : (cause : Cause) → result ≡ Err (refusal.Broken cause) → old.broken ≡ Some cause
       -- From each state that the core stands for, the entries lead to one that the new core stands for.
       pub moves : on.told → IsSome (on.table new.table) → HasRoom old.journal → ask.premise → (s : State) → Tracks on.tree on.table old s → Moved ask.store old new entries s
-      -- A table that is told was told before.
+      -- A table that is told was told before, and a keeper of a kind that lasts goes on telling.
       pub tells : IsSome (on.table new.table) → IsSome (on.table old.table)
+      pub lasting : Lasts on.lasts (on.table old.table) (on.table new.table)
       -- The configuration stays.
       pub config : new.config ≡ old.config
       -- A fault of a device is answered only where its count rose. No count falls.

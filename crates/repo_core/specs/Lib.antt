@@ -21,3 +21,4 @@ pub mod Survives
 pub mod Returned
 pub mod Barred
 pub mod Worked
+pub mod Why

@@ -1,19 +1,17 @@
 -- What a crash inside a call, or a refusal, leaves of a core.
-use Rattle.std.specs.Prelude.{◌≡◌, None, IsSome, Result, OnErr}
+use Rattle.std.specs.Prelude.{◌≡◌, ◌⊎◌, None, IsSome, Result, OnErr}
 use Rattle.repo_model.specs.declared.reply.Refusal.{Refusal}
 use Rattle.repo_model.specs.State.{State}
 use Rattle.repo_model.specs.Plain.{config_of}
 use Rattle.disk_model.specs.Moments.{During, EachImage}
+use Rattle.asset_keeper.specs.Told.{Tells}
 use Rattle.repo_core.specs.Asks.{Ask}
 use Rattle.repo_core.specs.Devices.{Devices}
-use Rattle.repo_core.specs.Parts.{Parts, AreUntouched}
+use Rattle.repo_core.specs.Called.{parts_of}
+use Rattle.repo_core.specs.Parts.{KeepsRest, AreUntouched}
 use Rattle.repo_core.specs.Standing.{Tracks, IsDurable}
 use Rattle.repo_core.specs.Stays.{BytesStay}
 use Rattle.repo_core.specs.View.{CoreView}
-
--- the parts on which the work of a call goes
-abbrev pub parts_of : {D T : Type 0} → CoreView D T → Parts D T
-parts_of core = record { disk = core.disk; table = core.table; own = core.own }
 
 pub record Survives {D T A : Type 0} (on : Devices D T) (ask : Ask D A) (old new : CoreView D T) (result : Result A Refusal) : Type 0 where
   -- At every moment each image that a crash may leave has contents that the call allows.
@@ -23,5 +21,9 @@ pub record Survives {D T A : Type 0} (on : Devices D T) (ask : Ask D A) (old new
   pub durable : on.told → new.broken ≡ None → IsDurable on.tree on.clock on.lists old.disk → IsDurable on.tree on.clock on.lists new.disk
   -- The content of each blob that stood stays.
   pub stays : on.told → new.broken ≡ None → BytesStay (on.tree old.disk) (on.tree new.disk)
+  -- Names with which it has nothing to do keep their files, at every moment, also where it breaks the core.
+  pub rest : on.told → IsSome (on.table new.table) → ask.premise → (s : State) → Tracks on.tree on.table old s → old.broken ≡ None → KeepsRest on (ask.touches s) old.disk new.disk
+  -- The table is as it was, or as the call's one change of it leaves it: other rows and the generation stay, also where it breaks the core.
+  pub table : Tells (on.table old.table) (on.table new.table) (λ s t. (t ≡ s) ⊎ ask.alters s t)
   -- A refusal that doesn't break the core leaves everything.
   pub clean : new.broken ≡ None → OnErr result (AreUntouched on (parts_of old) (parts_of new))

@@ -1,15 +1,14 @@
-ghost use Rattle.std.specs.Prelude.{◌≡◌, [], Err, IfOk, true};
-ghost use Rattle.nx_base.specs.declared.policy.Policy.TheVariants.{NoRedeploy};
+ghost use Rattle.std.specs.Prelude.{◌≡◌, [], IfOk, IfErr};
 ghost use Rattle.blob_files.specs.Uploads.{HasTaken};
 ghost use Rattle.repo_model.specs.Plain.{config_of};
 ghost use Rattle.repo_model.specs.declared.call.Kind.TheVariants as kinds;
-ghost use Rattle.repo_model.specs.declared.reply.Refusal.TheVariants as refusal;
 ghost use Rattle.repo_core.specs.Asks.{begins};
 ghost use Rattle.repo_core.specs.Begun.{IsBegunFor};
-ghost use Rattle.repo_core.specs.Called.{Called};
+ghost use Rattle.repo_core.specs.Called.{Called, parts_of};
 ghost use Rattle.repo_core.specs.Devices.{devices};
 ghost use Rattle.repo_core.specs.Parts.{IsUnseen};
-ghost use Rattle.repo_core.specs.Survives.{Survives, parts_of};
+ghost use Rattle.repo_core.specs.Survives.{Survives};
+ghost use Rattle.repo_core.specs.Why.{WhyNotBegun};
 
 use crate::beginning::begin_upload;
 use crate::entries::{beginning, begun, refused};
@@ -34,8 +33,8 @@ impl<D: Disk, T: Keeper> Core<D, T> {
         // The upload is of this begin, and nothing was taken into it yet.
         ensures begun { IfOk result (IsBegunFor D.Writer.faults (config_of self.old.config) begin) }
         ensures taken { D.told → IfOk result (λ upload. HasTaken D.Writer.told D.Writer.written upload []) }
-        // A row bars the upload only where the keeper found one.
-        ensures no_redeploy { result ≡ Err (refusal.WriteDenied NoRedeploy) → T.found self.new.table ≡ true }
+        // Each refusal comes in its place, told or not.
+        ensures why { IfErr result (WhyNotBegun (config_of self.old.config) self.old.own.counts begin.key (T.found self.new.table)) }
     {
         if let Some(why) = self.barred() {
             self.turn_away(beginning(caller, begin, refused(&why)));

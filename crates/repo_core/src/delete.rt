@@ -1,11 +1,16 @@
-ghost use Rattle.std.specs.Prelude.{◌≡◌, ◌≢◌, ℕ, Option, Err, IsSome, None, false};
-ghost use Rattle.repo_model.specs.State.{State};
+ghost use Rattle.std.specs.Prelude.{◌≢◌, ◌≡◌, ℕ, codes, Option, Some, Err, IfErr, OnOk, IsSome};
+ghost use Rattle.nx_base.specs.declared.asset.Asset.{Asset};
+ghost use Rattle.repo_model.specs.State.{State, row_of};
+ghost use Rattle.repo_model.specs.Stamps.{time_of};
+ghost use Rattle.repo_model.specs.Plain.{config_of};
 ghost use Rattle.repo_model.specs.declared.reply.Refusal.TheVariants as refusal;
 ghost use Rattle.repo_core.specs.Asks.{deletes};
 ghost use Rattle.repo_core.specs.Called.{Called};
 ghost use Rattle.repo_core.specs.Devices.{devices};
+ghost use Rattle.repo_core.specs.Marks.{HasMark};
 ghost use Rattle.repo_core.specs.Standing.{Tracks};
 ghost use Rattle.repo_core.specs.Survives.{Survives};
+ghost use Rattle.repo_core.specs.Why.{WhyNotDeleted};
 
 use crate::deleting::give_up_row;
 use crate::end::{answer_of, cause_of};
@@ -23,10 +28,11 @@ impl<D: Disk, T: Keeper> Core<D, T> {
         ensures called { Called (devices D.Disk T.Keeper) (deletes caller key moment) self.old self.new result }
         ensures survives { Survives (devices D.Disk T.Keeper) (deletes caller key moment) self.old self.new result }
         ensures holds { self.new.holds ≡ self.old.holds }
-        // Nothing is found only where the keeper found nothing.
-        ensures not_found { result ≡ Err refusal.NotFound → T.found self.new.table ≡ false }
-        // Damage is told without a length, and never of files that agree.
-        ensures damaged { (size : ℕ) (found : Option ℕ) → result ≡ Err (refusal.Damaged size found) → found ≡ None }
+        // The properties of the blob say when and why it was deleted, and else what they said.
+        ensures marked { D.told → IsSome (T.table self.new.table) → (s : State) (asset : Asset) → Tracks D.tree T.table self.old s → row_of s key ≡ Some asset
+            → OnOk result (HasMark (D.tree self.old.disk) (D.tree self.new.disk) asset.blob (codes "Deleted by request") (time_of moment.now)) }
+        // Each refusal comes in its place, told or not, and damage is never told of files that agree.
+        ensures why { IfErr result (WhyNotDeleted (config_of self.old.config) key (T.found self.new.table)) }
         ensures whole { D.told → IsSome (T.table self.new.table) → (s : State) → Tracks D.tree T.table self.old s → (size : ℕ) (found : Option ℕ) → result ≢ Err (refusal.Damaged size found) }
     {
         if let Some(why) = self.barred() {

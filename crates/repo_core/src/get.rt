@@ -1,5 +1,6 @@
-ghost use Rattle.std.specs.Prelude.{◌≡◌, ◌≢◌, ℕ, length, slice_get, Err, IfOk, IsSome, Option, Some, None, false};
+ghost use Rattle.std.specs.Prelude.{◌≡◌, ◌≢◌, ℕ, length, slice_get, Err, IfOk, IfErr, IsSome, Option, Some, None};
 ghost use Rattle.repo_model.specs.State.{State};
+ghost use Rattle.repo_model.specs.Plain.{config_of};
 ghost use Rattle.repo_model.specs.declared.call.Look.TheVariants as looks;
 ghost use Rattle.repo_model.specs.declared.reply.Refusal.TheVariants as refusal;
 ghost use Rattle.repo_core.specs.Asks.{looks_at};
@@ -10,6 +11,7 @@ ghost use Rattle.repo_core.specs.Standing.{Tracks};
 ghost use Rattle.repo_core.specs.Survives.{Survives};
 ghost use Rattle.repo_core.specs.Got.{IsGotFor, GotOpened, GotFile, GotContent};
 ghost use Rattle.repo_core.specs.Looking.{HoldsAfter};
+ghost use Rattle.repo_core.specs.Why.{WhyNotGiven};
 
 use crate::end::{answer_of, cause_of};
 use crate::entries::refused;
@@ -52,10 +54,8 @@ impl<D: Disk, T: Keeper> Core<D, T> {
         ensures opened { IfOk result (GotOpened D.Reader.size D.Reader.faults) }
         ensures file { D.told → IfOk result (GotFile D.Reader.left (D.tree self.old.disk)) }
         ensures content { D.told → IsSome (T.table self.new.table) → (s : State) → Tracks D.tree T.table self.old s → IfOk result (GotContent D.Reader.left) }
-        // Nothing is found only where the keeper found nothing, and damage is told only as the disk's last look found it, and never
-        // of files that agree.
-        ensures not_found { result ≡ Err refusal.NotFound → T.found self.new.table ≡ false }
-        ensures damaged { (size : ℕ) (found : Option ℕ) → result ≡ Err (refusal.Damaged size found) → (D.last_look self.new.disk ≡ found) × (found ≢ Some size) }
+        // Each refusal comes in its place, told or not, and damage is never told of files that agree.
+        ensures why { IfErr result (WhyNotGiven (config_of self.old.config) key look (T.found self.new.table) (D.last_look self.new.disk)) }
         ensures whole { D.told → IsSome (T.table self.new.table) → (s : State) → Tracks D.tree T.table self.old s → (size : ℕ) (found : Option ℕ) → result ≢ Err (refusal.Damaged size found) }
     {
         if let Some(why) = self.barred() {

@@ -33,6 +33,7 @@ pub(crate) fn stage_mark<D: Disk>(
     ensures stages { D.told → IfOk result (λ mark. Stages D.Writer.content (D.tree disk.old) blob.now reason.now at mark) }
     ensures tree { D.told → Same (D.tree disk.old) (D.tree disk.new) }
     ensures any_moment { D.told → During D.clock D.lists disk.old disk.new (Same (D.lists disk.old (D.clock disk.old))) }
+    ensures shown { D.shown disk.new ≡ D.shown disk.old }
     ensures cause { HasCauseWhere IsFault (D.faults disk.old) (D.faults disk.new) result }
 {
     let Ok(files) = BlobFiles::of(alloc, blob, Layout::Volume) else {

@@ -1,12 +1,17 @@
-ghost use Rattle.std.specs.Prelude.{◌≡◌, ◌<◌, ◌^◌, ℕ, List, IfOk, IsSome, Err, Some, true};
-ghost use Rattle.nx_base.specs.declared.policy.Policy.TheVariants.{NoRedeploy};
+ghost use Rattle.std.specs.Prelude.{◌≡◌, ◌<◌, ◌^◌, codes, IfOk, IfErr, OnOk, IsSome, Some};
+ghost use Rattle.nx_base.specs.declared.asset.Asset.{Asset};
+ghost use Rattle.repo_model.specs.State.{State, row_of};
+ghost use Rattle.repo_model.specs.Stamps.{time_of};
 ghost use Rattle.tree_content.specs.Blobs.{bytes_name};
 ghost use Rattle.repo_model.specs.Plain.{config_of};
-ghost use Rattle.repo_model.specs.declared.reply.Refusal.TheVariants as refusal;
 ghost use Rattle.repo_core.specs.Asks.{puts};
 ghost use Rattle.repo_core.specs.Called.{Called};
 ghost use Rattle.repo_core.specs.Devices.{devices};
+ghost use Rattle.repo_core.specs.Marks.{HasMark, HasProps};
+ghost use Rattle.repo_core.specs.Puts.{MayGo, AreBytes, props_of, upload_of};
+ghost use Rattle.repo_core.specs.Standing.{Tracks};
 ghost use Rattle.repo_core.specs.Survives.{Survives};
+ghost use Rattle.repo_core.specs.Why.{WhyNotPut};
 
 use crate::end::{answer_of, cause_of};
 use crate::entries::{put, refused, stored};
@@ -34,9 +39,13 @@ impl<D: Disk, T: Keeper> Core<D, T> {
         // The blob stands in the store of the upload, and its bytes are those of the file.
         ensures store { IfOk result (λ asset. asset.blob.store ≡ ready.store) }
         ensures made { D.told → IfOk result (λ asset. D.tree self.new.disk (bytes_name asset.blob) ≡ Some (D.Writer.content ready.file)) }
-        // A row bars the put only where the keeper found one, and an id is taken only where the disk found a file.
-        ensures no_redeploy { result ≡ Err (refusal.WriteDenied NoRedeploy) → T.found self.new.table ≡ true }
-        ensures taken { (id : List ℕ) → result ≡ Err (refusal.IdTaken id) → IsSome (D.last_look self.new.disk) }
+        // Its properties say what was put, and those of the blob that the key had, when and why it was replaced, and else what they said.
+        ensures says { D.told → IfOk result (λ asset. HasProps (D.tree self.new.disk) asset.blob (props_of (upload_of ready) asset.blob.stamp)) }
+        ensures marked { D.told → IsSome (T.table self.new.table) → MayGo (config_of self.old.config) ready.begin.key ready.store → AreBytes (upload_of ready) (D.Writer.content ready.file)
+            → (s : State) (old : Asset) → Tracks D.tree T.table self.old s → row_of s ready.begin.key ≡ Some old
+            → OnOk result (HasMark (D.tree self.old.disk) (D.tree self.new.disk) old.blob (codes "Replaced") (time_of moment.now)) }
+        // Each refusal comes in its place, told or not.
+        ensures why { IfErr result (WhyNotPut (config_of self.old.config) self.old.own.last ready.begin.key moment (T.found self.new.table) (D.last_look self.new.disk)) }
     {
         let Ready {
             file,

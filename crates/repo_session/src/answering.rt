@@ -100,14 +100,16 @@ impl<D: Disk, T: Keeper> Repository for Answering<D, T, D::Writer, D::Reader> {
 
     fn abort(&mut self) {
         self.draws.draw();
-        if let Some(OpenUpload { upload }) = self.upload.take() {
+        if let Some(open) = self.upload.take() {
+            let OpenUpload { upload } = open;
             self.core.end_upload(0, upload);
         }
     }
 
     fn cut(&mut self) {
         self.draws.draw();
-        if let Some(OpenUpload { upload }) = self.upload.take() {
+        if let Some(open) = self.upload.take() {
+            let OpenUpload { upload } = open;
             self.core.end_upload(0, upload);
         }
     }

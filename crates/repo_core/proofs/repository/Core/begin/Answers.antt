@@ -1,4 +1,4 @@
-use Rattle.std.proofs.Common.{◌≡◌, inl, [], ◌∷◌, length, true, None, refl, sym, ◌∙◌, ap, subst}
+use Rattle.std.proofs.Common.{◌≡◌, ◌⊎◌, inl, [], ◌∷◌, length, true, None, refl, sym, ◌∙◌, ap, subst}
 use Rattle.repo_model.specs.declared.call.Call.TheVariants as call
 use Rattle.repo_model.specs.declared.entry.Entry.{Entry}
 use Rattle.repo_model.specs.declared.reply.Reply.{Reply}
@@ -6,30 +6,32 @@ use Rattle.repo_model.specs.History.{Follows}
 use Rattle.repo_model.specs.Plain.{config_of}
 use Rattle.repo_core.specs.declared.beginning.Begun.{Begun}
 use Rattle.repo_core.specs.Answers.{entry_of, is_denied, stopped}
-use Rattle.repo_core.specs.Asks.{begins}
+use Rattle.repo_core.specs.Asks.{begins, TouchesNone, AltersNone}
 use Rattle.repo_core.specs.Barred.{BarredBy}
 use Rattle.repo_core.specs.Begun.{begun_in, begun_or_refused}
+use Rattle.repo_core.specs.Called.{parts_of}
 use Rattle.repo_core.specs.Devices.{devices}
 use Rattle.repo_core.specs.Faults.{IsDisk, IsKeeper}
 use Rattle.repo_core.specs.Parts.{StandFor}
-use Rattle.repo_core.specs.Survives.{parts_of}
 use Rattle.repo_core.specs.View.{CoreView}
+use Rattle.repo_core.specs.Why.{WhyNotBegun}
 use Rattle.repo_core.proofs.Answering.{tells_map}
 use Rattle.repo_core.proofs.Barrings.{barred_alone}
 use Rattle.repo_core.proofs.BeginSteps.{next_begun}
 use Rattle.repo_core.proofs.CallsMade.{left_by, called_done, survives_done}
-use Rattle.repo_core.proofs.WorkAnswers.{breaks_nothing, if_stopped, stopped_answers, stopped_cause}
+use Rattle.repo_core.proofs.WorkAnswers.{breaks_nothing, if_stopped, never_stopped, stopped_answers, stopped_cause}
 use Rattle.repo_core.proofs.Works.{worked_quietly}
+use Rattle.repo_core.proofs.Whys.{barred_why, said_why, stopped_why}
 use Rattle.repo_core.proofs.repository.Core.begin.Goals as goal
 
 pub returns-in-Some-clause-called : goal.returns-in-Some-clause-called
 returns-in-Some-clause-called g c =
-    (barred_alone (devices g.D.Disk g.T.Keeper) c.args.caller (call.Begin c.args.begin) begun_in c.args.self.now c.turn_away.new.self c.in-Some.why c.beginning.result
+    (barred_alone (devices g.D.Disk g.T.Keeper) c.args.caller (call.Begin c.args.begin) begun_in TouchesNone AltersNone c.args.self.now c.turn_away.new.self c.in-Some.why c.beginning.result
     c.in-Some.ensures (c.beginning.ensures ∙ ap (λ (r : Reply). record { caller = c.args.caller; call = call.Begin c.args.begin; reply = r }) c.refused.ensures) c.turn_away.ensures.full c.turn_away.ensures.entry).0
 
 pub returns-in-Some-clause-survives : goal.returns-in-Some-clause-survives
 returns-in-Some-clause-survives g c =
-    (barred_alone (devices g.D.Disk g.T.Keeper) c.args.caller (call.Begin c.args.begin) begun_in c.args.self.now c.turn_away.new.self c.in-Some.why c.beginning.result
+    (barred_alone (devices g.D.Disk g.T.Keeper) c.args.caller (call.Begin c.args.begin) begun_in TouchesNone AltersNone c.args.self.now c.turn_away.new.self c.in-Some.why c.beginning.result
     c.in-Some.ensures (c.beginning.ensures ∙ ap (λ (r : Reply). record { caller = c.args.caller; call = call.Begin c.args.begin; reply = r }) c.refused.ensures) c.turn_away.ensures.full c.turn_away.ensures.entry).1
 
 pub returns-clause-called : goal.returns-clause-called
@@ -48,9 +50,10 @@ returns-clause-called g c = rw (← c.self.view_is) (
     called_done on ask old c.note.new.self c.begun-reply.result.1 c.beginning-2.result upload (stopped did.result) (length core.journal.entries)
     (stopped_answers upload begun_or_refused (λ begun. refl) (λ why. refl) did.result c.begun-reply.result.1 c.begun-reply.ensures.answer) free refl
     did.new.disk did.new.table did.new.own core.holds.items None c.note.ensures (breaks_nothing (length core.journal.entries) did.result) (ap (λ (e : Entry). e ∷ []) entry_is)
-    (worked_quietly on ask (config_of core.config) (parts_of old) (parts_of left) (stopped did.result) (λ s image has. inl has) (record { files = at.tree; moments = at.any_moment })
+    (worked_quietly on ask (config_of core.config) (parts_of old) (parts_of left) (stopped did.result) (λ s image has. inl has) (record { files = at.tree; moments = at.any_moment; shown = at.shown })
+    (tells_map (λ s t. t ≡ s) (λ s t. (t ≡ s) ⊎ AltersNone s t) (g.T.Keeper.table core.table) (g.T.Keeper.table did.new.table) (λ s t same. inl same) at.rows)
     (tells_map (λ s t. t ≡ s) (λ s t. is_denied (stopped did.result) ≡ true → t ≡ s) (g.T.Keeper.table core.table) (g.T.Keeper.table did.new.table) (λ s t same denied. same) at.rows)
-    (if_stopped (did.new.own ≡ core.own) did.result at.clean)
+    (if_stopped (did.new.own ≡ core.own) did.result at.clean) (λ broke. never_stopped _ did.result broke) (λ _. at.changes) at.lasting
     (stopped_cause IsDisk _ _ did.result at.disk_cause) (stopped_cause IsKeeper _ _ did.result at.keeper_cause))
     (λ told some _ s a.
     let next = next_begun (config_of core.config) (length core.journal.entries) c.args.caller s c.args.begin (StandFor on (config_of core.config) (parts_of left)) did.result c.begun-reply.result.1 c.begun-reply.ensures.answer (at.ends told some s a) in
@@ -77,7 +80,22 @@ returns-clause-survives g c = rw (← c.self.view_is) (
     survives_done on ask old c.note.new.self c.begun-reply.result.1 c.beginning-2.result upload (stopped did.result) (length core.journal.entries)
     (stopped_answers upload begun_or_refused (λ begun. refl) (λ why. refl) did.result c.begun-reply.result.1 c.begun-reply.ensures.answer) free refl
     did.new.disk did.new.table did.new.own core.holds.items None c.note.ensures (breaks_nothing (length core.journal.entries) did.result) (ap (λ (e : Entry). e ∷ []) entry_is)
-    (worked_quietly on ask (config_of core.config) (parts_of old) (parts_of left) (stopped did.result) (λ s image has. inl has) (record { files = at.tree; moments = at.any_moment })
+    (worked_quietly on ask (config_of core.config) (parts_of old) (parts_of left) (stopped did.result) (λ s image has. inl has) (record { files = at.tree; moments = at.any_moment; shown = at.shown })
+    (tells_map (λ s t. t ≡ s) (λ s t. (t ≡ s) ⊎ AltersNone s t) (g.T.Keeper.table core.table) (g.T.Keeper.table did.new.table) (λ s t same. inl same) at.rows)
     (tells_map (λ s t. t ≡ s) (λ s t. is_denied (stopped did.result) ≡ true → t ≡ s) (g.T.Keeper.table core.table) (g.T.Keeper.table did.new.table) (λ s t same denied. same) at.rows)
-    (if_stopped (did.new.own ≡ core.own) did.result at.clean)
+    (if_stopped (did.new.own ≡ core.own) did.result at.clean) (λ broke. never_stopped _ did.result broke) (λ _. at.changes) at.lasting
     (stopped_cause IsDisk _ _ did.result at.disk_cause) (stopped_cause IsKeeper _ _ did.result at.keeper_cause)))
+
+pub returns-in-Some-clause-why : goal.returns-in-Some-clause-why
+returns-in-Some-clause-why g c =
+    barred_why c.args.self.now c.in-Some.why
+    (WhyNotBegun (config_of c.args.self.now.config) c.args.self.now.own.counts c.args.begin.key (g.T.Keeper.found c.turn_away.new.self.table)) tt (λ cause. tt) c.in-Some.ensures
+
+pub returns-clause-why : goal.returns-clause-why
+returns-clause-why g c = rw (← c.self.view_is, c.note.ensures) (
+    let core = c.self.inside in
+    let did = c.begin_upload-done in
+    let upload : Begun g.row.D-Writer.Denot → _ = λ begun. begun.upload in
+    let P = WhyNotBegun (config_of core.config) core.own.counts c.args.begin.key (g.T.Keeper.found did.new.table) in
+    said_why upload P (stopped did.result) c.begun-reply.result.1
+    (stopped_answers upload begun_or_refused (λ begun. refl) (λ why. refl) did.result c.begun-reply.result.1 c.begun-reply.ensures.answer) (stopped_why P did.result did.ensures.why))

@@ -1,4 +1,4 @@
-use Rattle.std.proofs.Common.{◌≡◌, [], ◌∷◌, length, IsSome, None, refl, sym, ◌∙◌, ap, subst}
+use Rattle.std.proofs.Common.{rules, ◌≡◌, inl, [], ◌∷◌, length, None, refl, sym, ◌∙◌, ap, subst}
 use Rattle.repo_model.specs.declared.entry.Entry.{Entry}
 use Rattle.repo_model.specs.declared.reply.Reply.{Reply}
 use Rattle.repo_model.specs.declared.reply.Reply.TheVariants as reply
@@ -6,32 +6,34 @@ use Rattle.repo_model.specs.History.{Follows}
 use Rattle.repo_model.specs.Plain.{config_of}
 use Rattle.repo_core.specs.declared.putting.Kept.{Kept}
 use Rattle.repo_core.specs.Answers.{reply_of, entry_of}
-use Rattle.repo_core.specs.Asks.{puts}
+use Rattle.repo_core.specs.Asks.{puts, TouchesNew, SetsRow}
+use Rattle.repo_core.specs.Called.{parts_of}
 use Rattle.repo_core.specs.Devices.{devices}
 use Rattle.repo_core.specs.Parts.{StandFor}
 use Rattle.repo_core.specs.Barred.{BarredBy}
 use Rattle.repo_core.specs.Puts.{put_call, upload_of, asset_of, MayGo, AreBytes}
 use Rattle.repo_core.specs.Standing.{AnswersAt}
-use Rattle.repo_core.specs.Survives.{parts_of}
 use Rattle.repo_core.specs.View.{CoreView}
-use Rattle.repo_core.proofs.Answering.{same_reply, if_taken}
+use Rattle.repo_core.specs.Why.{WhyNotPut}
+use Rattle.repo_core.proofs.Answering.{same_reply}
 use Rattle.repo_core.proofs.Barrings.{barred_with_file}
 use Rattle.repo_core.proofs.CallsMade.{left_by, called_done, survives_done}
 use Rattle.repo_core.proofs.WorkAnswers.{answers_as}
 use Rattle.repo_core.proofs.Works.{worked_by}
 use Rattle.repo_core.proofs.Finishings.{next_at}
+use Rattle.repo_core.proofs.Whys.{barred_why, on_ok_said, said_why}
 use Rattle.repo_core.proofs.repository.Core.commit_put.Goals as goal
 
 pub returns-in-Some-clause-called : goal.returns-in-Some-clause-called
 returns-in-Some-clause-called g c =
-    (barred_with_file (devices g.D.Disk g.T.Keeper) c.args.caller (put_call (upload_of c.args.ready) c.args.moment) (λ asset. reply.Stored asset) c.args.self.now c.turn_away.new.self c.in-Some.why c.put.result
+    (barred_with_file (devices g.D.Disk g.T.Keeper) c.args.caller (put_call (upload_of c.args.ready) c.args.moment) (λ asset. reply.Stored asset) (TouchesNew c.args.ready.store c.args.ready.begin.key c.args.moment) (SetsRow c.args.ready.begin.key) c.args.self.now c.turn_away.new.self c.in-Some.why c.put.result
     c.in-Some.ensures (c.put.ensures ∙ ap (λ (r : Reply). record { caller = c.args.caller; call = put_call (upload_of c.args.ready) c.args.moment; reply = r }) c.refused.ensures) c.args.ready.store
     (MayGo (config_of c.args.self.now.config) c.args.ready.begin.key c.args.ready.store × AreBytes (upload_of c.args.ready) (g.D.Writer.Writer.content c.args.ready.file))
     c.drop_file.new.self c.drop_file.ensures.rest c.drop_file.ensures.back c.turn_away.ensures.full c.turn_away.ensures.entry).0
 
 pub returns-in-Some-clause-survives : goal.returns-in-Some-clause-survives
 returns-in-Some-clause-survives g c =
-    (barred_with_file (devices g.D.Disk g.T.Keeper) c.args.caller (put_call (upload_of c.args.ready) c.args.moment) (λ asset. reply.Stored asset) c.args.self.now c.turn_away.new.self c.in-Some.why c.put.result
+    (barred_with_file (devices g.D.Disk g.T.Keeper) c.args.caller (put_call (upload_of c.args.ready) c.args.moment) (λ asset. reply.Stored asset) (TouchesNew c.args.ready.store c.args.ready.begin.key c.args.moment) (SetsRow c.args.ready.begin.key) c.args.self.now c.turn_away.new.self c.in-Some.why c.put.result
     c.in-Some.ensures (c.put.ensures ∙ ap (λ (r : Reply). record { caller = c.args.caller; call = put_call (upload_of c.args.ready) c.args.moment; reply = r }) c.refused.ensures) c.args.ready.store
     (MayGo (config_of c.args.self.now.config) c.args.ready.begin.key c.args.ready.store × AreBytes (upload_of c.args.ready) (g.D.Writer.Writer.content c.args.ready.file))
     c.drop_file.new.self c.drop_file.ensures.rest c.drop_file.ensures.back c.turn_away.ensures.full c.turn_away.ensures.entry).1
@@ -51,7 +53,7 @@ returns-clause-called g c = rw (← c.self.view_is) (
     called_done on ask old c.note.new.self c.stored-reply.result.1 c.put-2.result (λ (kept : Kept). kept.asset) did.result c.len.result
     (answers_as (λ (kept : Kept). kept.asset) asset_of (λ kept. refl) (λ why. refl) did.result c.answer_of.result c.stored-reply.result.1 c.answer_of.ensures c.stored-reply.ensures.answer) free c.len.ensures
     did.new.disk did.new.table did.new.own core.holds.items c.cause_of-cause.result c.note.ensures c.cause_of-cause.ensures (ap (λ (e : Entry). e ∷ []) entry_is)
-    (worked_by on ask (config_of core.config) (parts_of old) (parts_of left) did.result (λ told some may. at.crash told some may.0 may.1) at.durable at.stays at.clean_files at.clean_moments at.clean_rows at.clean_own at.disk_cause at.keeper_cause)
+    (worked_by on ask (config_of core.config) (parts_of old) (parts_of left) did.result (λ told some may. at.crash told some may.0 may.1) at.durable at.stays (λ told some may. at.rest told some may.0) at.table at.clean_files at.clean_moments at.clean_rows at.clean_own (λ broke. inl (at.shown broke)) at.unshown at.lasting at.disk_cause at.keeper_cause)
     (λ told some may s a.
     let asked = put_call (upload_of c.args.ready) c.args.moment in
     let next = next_at (config_of core.config) (length core.journal.entries) c.args.caller s c.args.ready.store asked (λ kept. reply.Stored kept.asset) (StandFor on (config_of core.config) (parts_of left)) did.result
@@ -84,9 +86,30 @@ returns-clause-survives g c = rw (← c.self.view_is) (
     survives_done on ask old c.note.new.self c.stored-reply.result.1 c.put-2.result (λ (kept : Kept). kept.asset) did.result c.len.result
     (answers_as (λ (kept : Kept). kept.asset) asset_of (λ kept. refl) (λ why. refl) did.result c.answer_of.result c.stored-reply.result.1 c.answer_of.ensures c.stored-reply.ensures.answer) free c.len.ensures
     did.new.disk did.new.table did.new.own core.holds.items c.cause_of-cause.result c.note.ensures c.cause_of-cause.ensures (ap (λ (e : Entry). e ∷ []) entry_is)
-    (worked_by on ask (config_of core.config) (parts_of old) (parts_of left) did.result (λ told some may. at.crash told some may.0 may.1) at.durable at.stays at.clean_files at.clean_moments at.clean_rows at.clean_own at.disk_cause at.keeper_cause))
+    (worked_by on ask (config_of core.config) (parts_of old) (parts_of left) did.result (λ told some may. at.crash told some may.0 may.1) at.durable at.stays (λ told some may. at.rest told some may.0) at.table at.clean_files at.clean_moments at.clean_rows at.clean_own (λ broke. inl (at.shown broke)) at.unshown at.lasting at.disk_cause at.keeper_cause))
 
-pub returns-clause-taken : goal.returns-clause-taken
-returns-clause-taken g c = λ id said.
-    subst (λ (k : CoreView g.row.D.Denot g.row.T.Denot). IsSome (g.D.Disk.last_look k.disk)) (sym c.note.ensures)
-    (c.put_content-done.ensures.taken id (if_taken c.put_content-done.result c.answer_of.result c.stored-reply.result.1 id c.stored-reply.ensures.answer c.answer_of.ensures said))
+pub returns-in-Some-clause-why : goal.returns-in-Some-clause-why
+returns-in-Some-clause-why g c =
+    barred_why c.args.self.now c.in-Some.why
+    (WhyNotPut (config_of c.args.self.now.config) c.args.self.now.own.last c.args.ready.begin.key c.args.moment (g.T.Keeper.found c.turn_away.new.self.table) (g.D.Disk.last_look c.turn_away.new.self.disk))
+    tt (λ cause. tt) c.in-Some.ensures
+
+pub returns-clause-why : goal.returns-clause-why
+returns-clause-why g c = rw (← c.self.view_is, c.note.ensures) (
+    let core = c.self.inside in
+    let did = c.put_content-done in
+    said_why (λ (kept : Kept). kept.asset)
+    (WhyNotPut (config_of core.config) core.own.last c.args.ready.begin.key c.args.moment (g.T.Keeper.found did.new.table) (g.D.Disk.last_look did.new.disk)) did.result c.stored-reply.result.1
+    (answers_as (λ (kept : Kept). kept.asset) asset_of (λ kept. refl) (λ why. refl) did.result c.answer_of.result c.stored-reply.result.1 c.answer_of.ensures c.stored-reply.ensures.answer) did.ensures.why)
+
+pub returns-in-Some-clause-marked : goal.returns-in-Some-clause-marked
+returns-in-Some-clause-marked g c = λ told some may are s old tracks row. tt
+
+pub returns-clause-marked : goal.returns-clause-marked
+returns-clause-marked g c = rw (← c.self.view_is, c.note.ensures) (λ told some may are s old tracks row.
+    let core = c.self.inside in
+    let none : core.broken ≡ None = search rules in
+    let did = c.put_content-done in
+    on_ok_said (λ (kept : Kept). kept.asset) _ did.result c.stored-reply.result.1
+    (answers_as (λ (kept : Kept). kept.asset) asset_of (λ kept. refl) (λ why. refl) did.result c.answer_of.result c.stored-reply.result.1 c.answer_of.ensures c.stored-reply.ensures.answer)
+    (did.ensures.marked told some may are s old (tracks.agrees none) row))

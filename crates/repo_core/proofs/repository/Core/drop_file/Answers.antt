@@ -10,6 +10,7 @@ returns-clause-back g c = rw (← c.self.view_is) (
       quiet = record {
         files = c.discard.ensures.tree;
         moments = λ told. still_same clock lists old old c.discard.new.self (nothing_ran clock lists old) (c.discard.ensures.time told) (c.discard.ensures.crash told);
+        shown = c.discard.ensures.shown;
       };
       faults = c.discard.ensures.cause;
     })

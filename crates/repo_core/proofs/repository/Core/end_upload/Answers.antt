@@ -13,4 +13,4 @@ returns-clause-back g c = rw (← c.self.view_is) (
     let new = c.give_up.new.self in
     let back = c.give_up.ensures in
     gave_back on (record { disk = old; table = core.table; config = core.config; journal = core.journal; own = core.own; holds = core.holds.items; broken = core.broken }) new core.holds.items _
-    (record { files = back.tree; moments = λ told. still_same on.clock on.lists old old new (nothing_ran on.clock on.lists old) (back.time told) (back.crash told) }) (subst (λ (p : g.row.D-Writer.Denot). TakesBack (on.disk_faults old) (on.disk_faults new) (g.D.Writer.Writer.faults p)) c.into_writer.ensures back.cause) back.look)
+    (record { files = back.tree; moments = λ told. still_same on.clock on.lists old old new (nothing_ran on.clock on.lists old) (back.time told) (back.crash told); shown = back.shown }) (subst (λ (p : g.row.D-Writer.Denot). TakesBack (on.disk_faults old) (on.disk_faults new) (g.D.Writer.Writer.faults p)) c.into_writer.ensures back.cause) back.look)
