@@ -1,5 +1,5 @@
 -- How a call that a core didn't take keeps what each call keeps (specs/Called.antt, specs/Survives.antt).
-use Rattle.std.proofs.Common.{◌≡◌, ◌⊎◌, inl, inr, ℕ, List, [], ◌∷◌, length, IsSome, OnErr, IfErr, Option, Some, None, Result, Err, refl, sym, ◌∙◌, ap, subst, arith, append-nil}
+use Rattle.std.proofs.Common.{◌≡◌, ◌⊎◌, inl, inr, ℕ, List, [], ◌∷◌, length, IsSome, OnOk, OnErr, IfErr, Option, Some, None, Result, Err, refl, sym, ◌∙◌, ap, subst, arith, append-nil}
 use Rattle.std.proofs.lemmas.Bool.{cases_lt}
 use Rattle.nx_io.specs.Causes.{HasCauseWhere, Rose}
 use Rattle.repo_model.specs.declared.call.Call.{Call}
@@ -19,6 +19,7 @@ use Rattle.disk_model.specs.Disk.{Tree}
 use Rattle.asset_keeper.specs.Table.{Table}
 use Rattle.asset_keeper.specs.Told.{Tells}
 use Rattle.tree_content.specs.Contents.{HasContents}
+use Rattle.repo_core.specs.declared.own.Own.{Own}
 use Rattle.repo_core.specs.Rows.{contents_in}
 use Rattle.repo_core.specs.Answers.{IsFull, HasRoom, with_entry}
 use Rattle.repo_core.specs.Asks.{Ask, TookBack, asks, asks_to_store}
@@ -192,6 +193,8 @@ module _ {D T A : Type 0} (on : Devices D T) (ask : Ask D A) (old new : CoreView
       stays = λ told none. stays_quiet on old.disk new.disk back.quiet told;
       rest = λ told some premise s tracks none. rest_quiet on (ask.touches s) told old.disk new.disk back.quiet;
       table = subst (λ (t : T). Tells (on.table old.table) (on.table t) (λ a b. (b ≡ a) ⊎ ask.alters a b)) (sym same_table) (tells_still (λ a b. (b ≡ a) ⊎ ask.alters a b) (λ t. inl refl) (on.table old.table));
+      own = inl (ap (λ (core : CoreView D T). core.own) rest);
+      own_done = subst (λ (r : Result A Refusal). OnOk r (ask.keeps old.own new.own)) (sym answer) tt;
       clean = λ none. subst (λ (r : Result A Refusal). OnErr r (AreUntouched on (parts_of old) (parts_of new))) (sym answer) (record {
         unseen = record {
           quiet = back.quiet;
@@ -209,25 +212,25 @@ idle on old new same = subst (λ (d : _). TookBack on old d) (sym same) (record 
   faults = refl;
 })
 
-module _ {D T A : Type 0} (on : Devices D T) (caller : ℕ) (c : Call) (says : A → Reply) (touches : State → List ℕ → Type 0) (alters : Table → Table → Type 0) (old new : CoreView D T) (why : Refusal) (entry : Entry) (by : BarredBy old (Some why))
+module _ {D T A : Type 0} (on : Devices D T) (caller : ℕ) (c : Call) (says : A → Reply) (touches : State → List ℕ → Type 0) (alters : Table → Table → Type 0) (keeps : Own → Own → Type 0) (old new : CoreView D T) (why : Refusal) (entry : Entry) (by : BarredBy old (Some why))
     (entry_is : entry ≡ record { caller = caller; call = c; reply = reply.Refused why }) where
   -- A call to which nothing was handed was barred.
   pub barred_alone : (IsFull old.journal → new ≡ old) → (HasRoom old.journal → new ≡ record old { journal = with_entry old.journal entry })
-      → Called on (asks caller c says touches alters) old new (Err why) × Survives on (asks caller c says touches alters) old new (Err why)
+      → Called on (asks caller c says touches alters keeps) old new (Err why) × Survives on (asks caller c says touches alters keeps) old new (Err why)
   barred_alone full room =
       let away : WasTurnedAway old new entry = away_after old old new entry refl full room in
       let same : new.disk ≡ old.disk = same_disk old new entry full room in (
-        called_barred on (asks caller c says touches alters) old new (Err why) entry caller c why by refl entry_is away (ap (λ (e : Entry). e ∷ []) entry_is) same (idle on old.disk new.disk same),
-        survives_barred on (asks caller c says touches alters) old new (Err why) entry caller c why by refl entry_is away (ap (λ (e : Entry). e ∷ []) entry_is) same (idle on old.disk new.disk same) (λ config s image has. inl has),
+        called_barred on (asks caller c says touches alters keeps) old new (Err why) entry caller c why by refl entry_is away (ap (λ (e : Entry). e ∷ []) entry_is) same (idle on old.disk new.disk same),
+        survives_barred on (asks caller c says touches alters keeps) old new (Err why) entry caller c why by refl entry_is away (ap (λ (e : Entry). e ∷ []) entry_is) same (idle on old.disk new.disk same) (λ config s image has. inl has),
       )
 
   -- A call that was to store a file was barred, and the file given up before.
   pub barred_with_file : (store : List ℕ) (premise : Type 0) (mid : CoreView D T) → mid ≡ record old { disk = mid.disk } → TookBack on old.disk mid.disk
       → (IsFull mid.journal → new ≡ mid) → (HasRoom mid.journal → new ≡ record mid { journal = with_entry mid.journal entry })
-      → Called on (asks_to_store on caller c says touches alters store premise) old new (Err why) × Survives on (asks_to_store on caller c says touches alters store premise) old new (Err why)
+      → Called on (asks_to_store on caller c says touches alters keeps store premise) old new (Err why) × Survives on (asks_to_store on caller c says touches alters keeps store premise) old new (Err why)
   barred_with_file store premise mid rest back full room =
       let away : WasTurnedAway old new entry = away_after old mid new entry rest full room in
       let took : TookBack on old.disk new.disk = subst (λ (d : D). TookBack on old.disk d) (sym (same_disk mid new entry full room)) back in (
-        called_barred on (asks_to_store on caller c says touches alters store premise) old new (Err why) entry caller c why by refl entry_is away (ap (λ (e : Entry). e ∷ []) entry_is) took took,
-        survives_barred on (asks_to_store on caller c says touches alters store premise) old new (Err why) entry caller c why by refl entry_is away (ap (λ (e : Entry). e ∷ []) entry_is) took took (λ config s image has. inl has),
+        called_barred on (asks_to_store on caller c says touches alters keeps store premise) old new (Err why) entry caller c why by refl entry_is away (ap (λ (e : Entry). e ∷ []) entry_is) took took,
+        survives_barred on (asks_to_store on caller c says touches alters keeps store premise) old new (Err why) entry caller c why by refl entry_is away (ap (λ (e : Entry). e ∷ []) entry_is) took took (λ config s image has. inl has),
       )

@@ -1,5 +1,5 @@
 -- How a call that was made keeps what each call keeps (specs/Called.antt, specs/Survives.antt), by its work.
-use Rattle.std.proofs.Common.{◌≡◌, ℕ, List, [], ◌∷◌, length, IsSome, Option, None, Result, refl, sym, ◌∙◌, subst, arith}
+use Rattle.std.proofs.Common.{◌≡◌, ◌⊎◌, inl, inr, ℕ, List, [], ◌∷◌, length, IsSome, Option, None, Result, refl, sym, ◌∙◌, subst, arith}
 use Rattle.nx_io.specs.Causes.{Rose}
 use Rattle.repo_model.specs.declared.entry.Entry.{Entry}
 use Rattle.repo_model.specs.declared.reply.Cause.{Cause}
@@ -22,7 +22,7 @@ use Rattle.repo_core.specs.View.{CoreView}
 use Rattle.repo_core.specs.Worked.{IsAnswerOf, Worked}
 use Rattle.repo_core.proofs.Breaks.{broke_number, broke_disk, broke_keeper}
 use Rattle.repo_core.proofs.Finishings.{not_broke}
-use Rattle.repo_core.proofs.WorkAnswers.{some_none, was_broke, answered_cause, never_full, never_broken, if_denied}
+use Rattle.repo_core.proofs.WorkAnswers.{some_none, was_broke, if_not_denied, on_done, answered_cause, never_full, never_broken, if_denied}
 
 pub full_or_room : (P : Type 0) (journal : JournalView) → IsFull journal → HasRoom journal → P
 full_or_room P journal full room = absurd (omega (arith, full, room))
@@ -92,5 +92,7 @@ module _ {D T A : Type 0} (on : Devices D T) (ask : Ask D A) (old new : CoreView
       stays = λ told none. work.stays told;
       rest = λ told some premise s tracks none. work.rest told some premise s (tracks.agrees none);
       table = work.table;
+      own = if_not_denied ((own ≡ old.own) ⊎ ask.keeps old.own own) done (λ denied. inl (work.clean denied).own) (λ made. inr (work.own made));
+      own_done = on_done says (ask.keeps old.own own) done result is (λ made. work.own made);
       clean = λ none. if_denied says (AreUntouched on (parts_of old) (parts_of left)) number done result cause is caused none work.clean;
     })

@@ -1,5 +1,5 @@
 -- What the answers of works are: never those of a core that takes no call, and a fault only where the work told of one.
-use Rattle.std.proofs.Common.{◌≡◌, ℕ, true, OnErr, IfErr, Option, Some, None, Result, Ok, Err, refl, sym, ◌∙◌, ap, subst}
+use Rattle.std.proofs.Common.{◌≡◌, ℕ, true, false, OnErr, OnOk, IfErr, Option, Some, None, Result, Ok, Err, refl, sym, ◌∙◌, ap, subst}
 use Rattle.nx_io.specs.Causes.{HasCauseWhere}
 use Rattle.repo_model.specs.declared.reply.Cause.{Cause}
 use Rattle.repo_model.specs.declared.reply.Fault.{Fault}
@@ -103,6 +103,18 @@ was_broke (Ok value) number broken is cause broke = absurd (some_none broken cau
 was_broke (Err (stop.Denied why)) number broken is cause broke = absurd (some_none broken cause is broke)
 was_broke (Err (stop.Broke what)) number broken is cause broke = refl
 
+-- a work was denied, or it wasn't
+pub if_not_denied : {X : Type 0} (P : Type 0) (done : Result X Stop) → (is_denied done ≡ true → P) → (is_denied done ≡ false → P) → P
+if_not_denied P (Ok value) denied made = made refl
+if_not_denied P (Err (stop.Denied why)) denied made = denied refl
+if_not_denied P (Err (stop.Broke what)) denied made = made refl
+
+-- what holds where it wasn't holds where the call did what it was for
+pub on_done : {X A : Type 0} (says : X → A) (P : Type 0) (done : Result X Stop) (result : Result A Refusal) → IsAnswerOf says done result → (is_denied done ≡ false → P) → OnOk result P
+on_done {X} {A} says P (Ok value) result is made = subst (λ (r : Result A Refusal). OnOk r P) (sym is) (made refl)
+on_done {X} {A} says P (Err (stop.Denied why)) result is made = subst (λ (r : Result A Refusal). OnOk r P) (sym is) tt
+on_done {X} {A} says P (Err (stop.Broke what)) result is made = subst (λ (r : Result A Refusal). OnOk r P) (sym is) tt
+
 -- what the work comes to is the answer
 pub answers : {X : Type 0} (done : Result X Stop) (said : Result X Refusal) → said ≡ answer_of done → IsAnswerOf (λ (value : X). value) done said
 answers (Ok value) said is = is
@@ -129,6 +141,10 @@ pub stopped_answers : {X A : Type 0} (says : X → A) (shown : Result X Denial �
     → (done : Result X Denial) (result : Result A Refusal) → result ≡ shown done → IsAnswerOf says (stopped done) result
 stopped_answers says shown ok err (Ok value) result is = is ∙ ok value
 stopped_answers says shown ok err (Err why) result is = is ∙ err why
+
+pub not_denied_counts : {A : Type 0} (P : Type 0) (done : Result A Denial) → OnOk done P → is_denied (stopped done) ≡ false → P
+not_denied_counts P (Ok value) holds made = holds
+not_denied_counts P (Err why) holds made = cc
 
 pub never_stopped : {A : Type 0} (P : Type 0) (done : Result A Denial) → is_broke (stopped done) ≡ true → P
 never_stopped P (Ok value) broke = cc

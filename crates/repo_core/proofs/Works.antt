@@ -55,6 +55,7 @@ pub worked_by : {D T X A : Type 0} (on : Devices D T) (ask : Ask D A) (config : 
     → (on.told → BytesStay (on.tree old.disk) (on.tree new.disk))
     → (on.told → IsSome (on.table new.table) → ask.premise → (s : State) → StandFor on config old s → KeepsRest on (ask.touches s) old.disk new.disk)
     → Tells (on.table old.table) (on.table new.table) (λ s t. (t ≡ s) ⊎ ask.alters s t)
+    → (is_denied done ≡ false → ask.keeps old.own new.own)
     → (on.told → is_denied done ≡ true → Same (on.tree old.disk) (on.tree new.disk))
     → (on.told → is_denied done ≡ true → During on.clock on.lists old.disk new.disk (Same (on.lists old.disk (on.clock old.disk))))
     → Tells (on.table old.table) (on.table new.table) (λ s t. is_denied done ≡ true → t ≡ s)
@@ -65,12 +66,13 @@ pub worked_by : {D T X A : Type 0} (on : Devices D T) (ask : Ask D A) (config : 
     → HasCauseWhere (StoppedBy IsDisk) (on.disk_faults old.disk) (on.disk_faults new.disk) done
     → HasCauseWhere (StoppedBy IsKeeper) (on.keeper_faults old.table) (on.keeper_faults new.table) done
     → Worked on ask config old new done
-worked_by on ask config old new done crash durable stays rest table files moments rows own behind unshown lasting disk keeper = record {
+worked_by on ask config old new done crash durable stays rest table keeps files moments rows own behind unshown lasting disk keeper = record {
   crash = crash;
   durable = durable;
   stays = stays;
   rest = rest;
   table = table;
+  own = keeps;
   clean = λ denied. record {
     unseen = record {
       quiet = record { files = λ told. files told denied; moments = λ told. moments told denied; shown = (unshown denied).0 };
@@ -91,16 +93,17 @@ pub worked_quietly : {D T X A : Type 0} (on : Devices D T) (ask : Ask D A) (conf
     → ((s : State) (image : Tree) → HasContents (homes_of config) (contents_in s.rows) image → ask.leaves config s image)
     → IsQuiet on old.disk new.disk
     → Tells (on.table old.table) (on.table new.table) (λ s t. (t ≡ s) ⊎ ask.alters s t)
+    → (is_denied done ≡ false → ask.keeps old.own new.own)
     → Tells (on.table old.table) (on.table new.table) (λ s t. is_denied done ≡ true → t ≡ s) → (is_denied done ≡ true → new.own ≡ old.own)
     → (is_broke done ≡ true → Rose (on.changes old.table) (on.changes new.table)) → (is_denied done ≡ true → on.changes new.table ≡ on.changes old.table)
     → Lasts on.lasts (on.table old.table) (on.table new.table)
     → HasCauseWhere (StoppedBy IsDisk) (on.disk_faults old.disk) (on.disk_faults new.disk) done
     → HasCauseWhere (StoppedBy IsKeeper) (on.keeper_faults old.table) (on.keeper_faults new.table) done
     → Worked on ask config old new done
-worked_quietly on ask config old new done before quiet table rows own behind unchanged lasting disk keeper =
+worked_quietly on ask config old new done before quiet table keeps rows own behind unchanged lasting disk keeper =
     worked_by on ask config old new done
     (λ told some _ s a settled. crash_before config (on.tree old.disk) s a.files on.clock on.lists old.disk new.disk (ask.leaves config s) (before s) settled (quiet.moments told))
     (λ told _ settled. durable_quiet on old.disk new.disk quiet told settled)
     (λ told. stays_quiet on old.disk new.disk quiet told)
-    (λ told some _ s a. rest_quiet on (ask.touches s) told old.disk new.disk quiet) table
+    (λ told some _ s a. rest_quiet on (ask.touches s) told old.disk new.disk quiet) table keeps
     (λ told _. quiet.files told) (λ told _. quiet.moments told) rows own (λ broke. inr (behind broke)) (λ denied. (quiet.shown, unchanged denied)) lasting disk keeper

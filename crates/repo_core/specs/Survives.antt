@@ -1,5 +1,5 @@
 -- What a crash inside a call, or a refusal, leaves of a core.
-use Rattle.std.specs.Prelude.{◌≡◌, ◌⊎◌, None, IsSome, Result, OnErr}
+use Rattle.std.specs.Prelude.{◌≡◌, ◌⊎◌, None, IsSome, Result, OnOk, OnErr}
 use Rattle.repo_model.specs.declared.reply.Refusal.{Refusal}
 use Rattle.repo_model.specs.State.{State}
 use Rattle.repo_model.specs.Plain.{config_of}
@@ -25,5 +25,8 @@ pub record Survives {D T A : Type 0} (on : Devices D T) (ask : Ask D A) (old new
   pub rest : on.told → IsSome (on.table new.table) → ask.premise → (s : State) → Tracks on.tree on.table old s → old.broken ≡ None → KeepsRest on (ask.touches s) old.disk new.disk
   -- The table is as it was, or as the call's one change of it leaves it: other rows and the generation stay, also where it breaks the core.
   pub table : Tells (on.table old.table) (on.table new.table) (λ s t. (t ≡ s) ⊎ ask.alters s t)
+  -- What the core keeps itself is as it was, or as the call's step makes it, and where the call did what it was for, as the step makes it.
+  pub own : (new.own ≡ old.own) ⊎ ask.keeps old.own new.own
+  pub own_done : OnOk result (ask.keeps old.own new.own)
   -- A refusal that doesn't break the core leaves everything.
   pub clean : new.broken ≡ None → OnErr result (AreUntouched on (parts_of old) (parts_of new))

@@ -23,12 +23,11 @@ impl<D: Disk, T: Keeper> Core<D, T> {
     pub fn begin(&mut self, caller: u32, begin: Begin) -> Result<Upload<D::Writer>, Refusal>
         // Fetches from the remotes of proxies are not begun yet.
         requires kind { begin.kind ≡ kinds.Put }
-        ensures called { Called (devices D.Disk T.Keeper) (begins caller begin) self.old self.new result }
-        ensures survives { Survives (devices D.Disk T.Keeper) (begins caller begin) self.old self.new result }
-        // It breaks nothing, nothing can be seen of it in files or rows, and of its own parts the counts alone change.
+        ensures called { Called (devices D.Disk T.Keeper) (begins (config_of self.old.config) caller begin) self.old self.new result }
+        ensures survives { Survives (devices D.Disk T.Keeper) (begins (config_of self.old.config) caller begin) self.old self.new result }
+        // It breaks nothing, and nothing can be seen of it in files or rows.
         ensures sound { self.new.broken ≡ self.old.broken }
         ensures unseen { IsUnseen (devices D.Disk T.Keeper) (parts_of self.old) (parts_of self.new) }
-        ensures counts { self.new.own ≡ record self.old.own { counts = self.new.own.counts } }
         ensures holds { self.new.holds ≡ self.old.holds }
         // The upload is of this begin, and nothing was taken into it yet.
         ensures begun { IfOk result (IsBegunFor D.Writer.faults (config_of self.old.config) begin) }

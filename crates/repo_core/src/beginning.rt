@@ -11,6 +11,7 @@ ghost use Rattle.repo_model.specs.declared.call.Kind.TheVariants as kinds;
 ghost use Rattle.repo_core.specs.Rows.{rows_in};
 ghost use Rattle.repo_core.specs.Agree.{Agrees};
 ghost use Rattle.repo_core.specs.Faults.{IsDisk, IsKeeper, DeniedBy, refusal_for};
+ghost use Rattle.repo_core.specs.Asks.{Counts};
 ghost use Rattle.repo_core.specs.Begun.{EndsBegin};
 ghost use Rattle.repo_core.specs.Puts.{MayGo};
 ghost use Rattle.repo_core.specs.Why.{WhyNotBegun};
@@ -79,6 +80,7 @@ pub(crate) fn begin_upload<D: Disk, T: Keeper>(
     ensures lasting { Lasts T.lasts (T.table table.old) (T.table table.new) }
     ensures counts { own.new ≡ record own.old { counts = own.new.counts } }
     ensures clean { OnErr result (own.new ≡ own.old) }
+    ensures counted { OnOk result (Counts (config_of config.now) begin.now.key own.old own.new) }
     ensures why { IfErr result (λ why. WhyNotBegun (config_of config.now) own.old.counts begin.now.key (T.found table.new) (refusal_for why)) }
     ensures disk_cause { HasCauseWhere (DeniedBy IsDisk) (D.faults disk.old) (D.faults disk.new) result }
     ensures keeper_cause { HasCauseWhere (DeniedBy IsKeeper) (T.faults table.old) (T.faults table.new) result }

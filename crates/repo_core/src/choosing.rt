@@ -1,4 +1,4 @@
-ghost use Rattle.std.specs.Prelude.{◌≡◌, ◌⊎◌, Bool, IfOk, OnOk, IfErr, IsSome, Some, None, true, false};
+ghost use Rattle.std.specs.Prelude.{◌≡◌, ◌⊎◌, Bool, IfOk, OnOk, IfErr, IsSome, unwrap_or, Some, None, true, false};
 ghost use Rattle.nx_io.specs.Causes.{HasCauseWhere};
 ghost use Rattle.nx_base.specs.declared.policy.Policy.TheVariants as policies;
 ghost use Rattle.asset_keeper.specs.Told.{Tells, Lasts};
@@ -8,7 +8,8 @@ ghost use Rattle.repo_model.specs.declared.call.Kind.TheVariants as kinds;
 ghost use Rattle.repo_core.specs.declared.denial.Denial.TheVariants as denial;
 ghost use Rattle.repo_core.specs.Rows.{rows_in};
 ghost use Rattle.asset_keeper.specs.declared.keep_err.KeepErr.{KeepErr};
-ghost use Rattle.repo_model.specs.Config.{is_no_redeploy};
+ghost use Rattle.std.specs.FinMap as map;
+ghost use Rattle.repo_model.specs.Config.{Repo, repo_of, write_store, is_no_redeploy};
 ghost use Rattle.repo_core.specs.Faults.{IsDisk, IsKeeper, DeniedBy, of_keeper, refusal_for};
 ghost use Rattle.repo_core.specs.Why.{WhyNotBegun, may_put, keeps_rows, store_of};
 ghost use Rattle.repo_core.specs.Begun.{MayChoose, MayReplace};
@@ -68,6 +69,7 @@ pub(crate) fn choose_store(
     ensures copy { IfOk result (λ c. c.copy ≡ c.store) }
     ensures nobody { IfErr result (λ why. ¬ DeniedBy IsDisk why × ¬ DeniedBy IsKeeper why) }
     ensures why { (found : Bool) → IfErr result (λ why. WhyNotBegun (config_of config.now) own.now.counts begin.now.key found (refusal_for why)) }
+    ensures group { IfOk result (λ c. (repo : Repo) × (repo_of (config_of config.now) begin.now.key.repo ≡ Some repo) × (c.group ≡ write_store repo) × (c.count ≡ unwrap_or (map.get own.now.counts (write_store repo)) 0)) }
     ensures opens { IfOk result (λ c. (may_put (config_of config.now) begin.now.key ≡ true) × IsSome (store_of (config_of config.now) own.now.counts begin.now.key) × (keeps_rows (config_of config.now) begin.now.key ≡ is_no_redeploy c.policy)) }
 {
     let Some(repo) = find_repo(&config.repos, &begin.key.repo) else {

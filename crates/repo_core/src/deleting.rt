@@ -10,6 +10,7 @@ ghost use Rattle.repo_model.specs.Deleting.{discarded};
 ghost use Rattle.repo_core.specs.Marks.{IsMarkOf, HasMark, NotStaged};
 ghost use Rattle.asset_keeper.specs.Told.{Tells, Lasts};
 ghost use Rattle.nx_base.specs.declared.asset.Asset.{Asset};
+ghost use Rattle.nx_base.specs.declared.moment.Moment.{Moment};
 ghost use Rattle.repo_model.specs.State.{State, row_of};
 ghost use Rattle.repo_model.specs.Stamps.{time_of};
 ghost use Rattle.repo_model.specs.Plain.{config_of};
@@ -24,7 +25,7 @@ ghost use Rattle.repo_core.specs.Answers.{is_denied, is_broke};
 ghost use Rattle.repo_core.specs.Standing.{IsDurable, BeforeOrAfter};
 ghost use Rattle.repo_core.specs.Ends.{MayDelete, Ends};
 ghost use Rattle.repo_core.specs.Stays.{BytesStay};
-ghost use Rattle.repo_core.specs.Asks.{TouchesRow, RemovesRow};
+ghost use Rattle.repo_core.specs.Asks.{Discards, TouchesRow, RemovesRow};
 ghost use Rattle.repo_core.specs.Devices.{devices};
 ghost use Rattle.repo_core.specs.Parts.{KeepsRest};
 ghost use Rattle.repo_core.specs.Why.{WhyNotDeleted, may_delete};
@@ -188,6 +189,7 @@ pub(crate) fn give_up_row<D: Disk, T: Keeper>(
     ensures clean_files { D.told → is_denied result ≡ true → Same (D.tree disk.old) (D.tree disk.new) }
     ensures clean_moments { D.told → is_denied result ≡ true → During D.clock D.lists disk.old disk.new (Same (D.lists disk.old (D.clock disk.old))) }
     ensures clean_own { is_denied result ≡ true → own.new ≡ own.old }
+    ensures keeps { (moment : Moment) → moment.now ≡ now → is_denied result ≡ false → Discards key.now moment own.old own.new }
     ensures clean_rows { Tells (T.table table.old) (T.table table.new) (λ s t. is_denied result ≡ true → t ≡ s) }
     // It is stopped halfway only behind the first visible step, or by it, and denied only before.
     ensures shown { is_broke result ≡ true → Rose (D.shown disk.old) (D.shown disk.new) }

@@ -10,7 +10,7 @@ ghost use Rattle.repo_core.specs.Rows.{rows_in};
 ghost use Rattle.repo_core.specs.Agree.{Agrees};
 ghost use Rattle.repo_core.specs.Puts.{MayGo, AreBytes, IsPlaced, Prepares, put_call, props_of};
 ghost use Rattle.repo_core.specs.Stays.{BytesStay};
-ghost use Rattle.repo_core.specs.Asks.{TouchesNew, Sets, SetsRow};
+ghost use Rattle.repo_core.specs.Asks.{Discards, Stamps, TouchesNew, Sets, SetsRow};
 ghost use Rattle.repo_core.specs.Devices.{devices};
 ghost use Rattle.repo_core.specs.Parts.{KeepsRest};
 ghost use Rattle.asset_keeper.specs.Table.{changed};
@@ -20,7 +20,7 @@ ghost use Rattle.tree_content.specs.Blobs.{bytes_at, props_at, bytes_name, props
 ghost use Rattle.tree_content.specs.Files.{RestOfPlace, Creates};
 ghost use Rattle.repo_core.specs.Faults.{IsDisk, IsKeeper, DeniedBy, StoppedBy, refusal_for, refusal_of_stop};
 ghost use Rattle.repo_core.specs.Why.{WhyNotPut, keeps_rows};
-ghost use Rattle.repo_model.specs.Stamps.{greatest_time, time_of};
+ghost use Rattle.repo_model.specs.Stamps.{greatest_time, next_stamp, time_of};
 ghost use Rattle.repo_core.specs.Marks.{HasMark, HasOld, HasProps};
 ghost use Rattle.blob_properties.specs.Readable.{Readable};
 ghost use Rattle.repo_core.specs.Answers.{is_denied, is_broke};
@@ -108,6 +108,8 @@ fn prepare<D: Disk, T: Keeper>(
     ensures changes { T.changes table.new ≡ T.changes table.old }
     ensures lasting { Lasts T.lasts (T.table table.old) (T.table table.new) }
     ensures clean { OnErr result (own.new ≡ own.old) }
+    ensures keeps { OnOk result ((own.new ≡ own.old) ⊎ Discards upload.now.key moment.entry.now own.old own.new) }
+    ensures stamp { IfOk result (λ staged. staged.new.asset.blob.stamp ≡ next_stamp own.old.last moment.entry.now.now) }
     ensures tree { D.told → Same (D.tree disk.old) (D.tree disk.new) }
     ensures any_moment { D.told → During D.clock D.lists disk.old disk.new (Same (D.lists disk.old (D.clock disk.old))) }
     ensures shown { D.shown disk.new ≡ D.shown disk.old }
@@ -181,6 +183,7 @@ pub(crate) fn put_content<D: Disk, T: Keeper>(
     ensures clean_files { D.told → is_denied result ≡ true → Same (D.tree disk.old) (D.tree disk.new) }
     ensures clean_moments { D.told → is_denied result ≡ true → During D.clock D.lists disk.old disk.new (Same (D.lists disk.old (D.clock disk.old))) }
     ensures clean_own { is_denied result ≡ true → own.new ≡ own.old }
+    ensures keeps { is_denied result ≡ false → Stamps upload.now.key moment.entry.now own.old own.new }
     ensures clean_rows { Tells (T.table table.old) (T.table table.new) (λ s t. is_denied result ≡ true → t ≡ s) }
     // It is stopped halfway only behind the first visible step, or by it, and denied only before.
     ensures shown { is_broke result ≡ true → Rose (D.shown disk.old) (D.shown disk.new) }

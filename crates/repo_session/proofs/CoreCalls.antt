@@ -19,8 +19,9 @@ use Rattle.repo_model.specs.Plain.{config_of}
 use Rattle.http_front.specs.Contents.{Contents, with_content}
 use Rattle.http_front.specs.TurnLaws.{ends_upload}
 use Rattle.http_front.specs.Turns.{FollowsAt}
+use Rattle.repo_core.specs.declared.own.Own.{Own}
 use Rattle.repo_core.specs.Answers.{IsFull, HasRoom, reply_of, entry_of}
-use Rattle.repo_core.specs.Asks.{Ask, EntersOne, asks, asks_to_store, puts, SetsRow, TouchesNew}
+use Rattle.repo_core.specs.Asks.{Ask, EntersOne, asks, asks_to_store, puts, SetsRow, Stamps, TouchesNew}
 use Rattle.repo_core.specs.Called as core
 use Rattle.repo_core.specs.Devices.{Devices}
 use Rattle.repo_core.specs.Faults.{IsDisk, IsKeeper, RefusedBy}
@@ -108,9 +109,9 @@ module _ {D T A : Type 0} (on : Devices D T) (ask : Ask D A) (old new : CoreView
         keeper_broke = λ cause none broke. (done.breaks cause none broke).keeper;
       }
 
-module _ {D T A : Type 0} (on : Devices D T) (old new : CoreView D T) (c : Call) (says : A → Reply) (touches : State → List ℕ → Type 0) (alters : Table → Table → Type 0) (result : Result A Refusal) where
+module _ {D T A : Type 0} (on : Devices D T) (old new : CoreView D T) (c : Call) (says : A → Reply) (touches : State → List ℕ → Type 0) (alters : Table → Table → Type 0) (keeps : Own → Own → Type 0) (result : Result A Refusal) where
   -- by its entry the state leads on
-  pub moves_of : core.Called on (asks 0 c says touches alters) old new result → on.told → IsSome (on.table new.table) → HasRoom old.journal → (s : State) → Tracks on.tree on.table old s
+  pub moves_of : core.Called on (asks 0 c says touches alters keeps) old new result → on.told → IsSome (on.table new.table) → HasRoom old.journal → (s : State) → Tracks on.tree on.table old s
       → Moves on.tree on.table old new (entry_of 0 c says result ∷ []) s
   moves_of done told some room s tracks =
       let moved : core.Moved on None old new (entry_of 0 c says result ∷ []) s = subst (λ (l : List Entry). core.Moved on None old new l s) (done.enters room) (done.moves told some room tt s tracks) in
@@ -118,29 +119,29 @@ module _ {D T A : Type 0} (on : Devices D T) (old new : CoreView D T) (c : Call)
 
   -- A call that ends no upload and stores nothing.
   pub asked_plain : IsAsked c → ends_upload c ≡ false → ((value : A) → IsNoRefusal (says value)) → ((value : A) (made : Asset) → says value ≢ reply.Stored made)
-      → core.Called on (asks 0 c says touches alters) old new result → Survives on (asks 0 c says touches alters) old new result
+      → core.Called on (asks 0 c says touches alters keeps) old new result → Survives on (asks 0 c says touches alters keeps) old new result
       → Called on old new c [] (reply_of says result) (λ contents. contents)
   asked_plain asked ends refuses stores done survives =
-      called_by on (asks 0 c says touches alters) old new result done c [] says (λ contents. contents) refuses (λ entries one. one)
+      called_by on (asks 0 c says touches alters keeps) old new result done c [] says (λ contents. contents) refuses (λ entries one. one)
       (λ told full s contents stands.
-      let same : new ≡ old = whole on (asks 0 c says touches alters) old new result done full ∙ ap (λ (d : D). record old { disk = d }) (done.full full).0.given_up in
+      let same : new ≡ old = whole on (asks 0 c says touches alters keeps) old new result done full ∙ ap (λ (d : D). record old { disk = d }) (done.full full).0.given_up in
       subst (λ (k : CoreView D T). Stands on k s contents) (sym same) stands)
       (λ told some room s contents stands.
       leads_plain on old new s contents c (reply_of says result) asked ends (stores_nothing says result stores) (moves_of done told some room s stands.tracks) stands
       (was_sound on old new (λ cause is. (done.broken cause room is).rest))
       (survives.stays told))
 
-module _ {D T : Type 0} (on : Devices D T) (old new : CoreView D T) (c : Call) (touches : State → List ℕ → Type 0) (alters : Table → Table → Type 0) (result : Result Asset Refusal) where
+module _ {D T : Type 0} (on : Devices D T) (old new : CoreView D T) (c : Call) (touches : State → List ℕ → Type 0) (alters : Table → Table → Type 0) (keeps : Own → Own → Type 0) (result : Result Asset Refusal) where
   abbrev stored : Asset → Reply
   stored asset = reply.Stored asset
 
   -- A call that stores an upload.
   pub asked_to_store : IsAsked c → (store content : List ℕ) (premise : Type 0) → (on.told → premise)
       → (on.told → IfOk result (λ (asset : Asset). on.tree new.disk (bytes_name asset.blob) ≡ Some content))
-      → core.Called on (asks_to_store on 0 c stored touches alters store premise) old new result → Survives on (asks_to_store on 0 c stored touches alters store premise) old new result
+      → core.Called on (asks_to_store on 0 c stored touches alters keeps store premise) old new result → Survives on (asks_to_store on 0 c stored touches alters keeps store premise) old new result
       → Called on old new c store (reply_of stored result) (λ contents. with_content (reply_of stored result) content contents)
   asked_to_store asked store content premise holds made done survives =
-      let ask = asks_to_store on 0 c stored touches alters store premise in
+      let ask = asks_to_store on 0 c stored touches alters keeps store premise in
       called_by on ask old new result done c store stored (λ contents. with_content (reply_of stored result) content contents) (λ v. (λ e. cc, λ e. cc)) (λ entries one. one)
       (λ told full s contents stands.
       subst (λ (l : Contents). Stands on new s l) (sym (ap (λ (r : Result Asset Refusal). with_content (reply_of stored r) content contents) (done.full full).0.answer))
@@ -169,7 +170,7 @@ pub asked_put : {D T S : Type 0} (on : Devices D T) (content_of : S → List ℕ
     → MayGo (config_of old.config) ready.begin.key ready.store → (content : List ℕ) → (on.told → AreBytes (upload_of ready) content × (content_of ready.file ≡ content))
     → Called on old new (put_call (upload_of ready) moment) ready.store (reply_of (λ (asset : Asset). reply.Stored asset) result) (λ contents. with_content (reply_of (λ (asset : Asset). reply.Stored asset) result) content contents)
 asked_put on content_of old new ready moment result done survives made may content are =
-    asked_to_store on old new (put_call (upload_of ready) moment) (TouchesNew ready.store ready.begin.key moment) (SetsRow ready.begin.key) result tt ready.store content
+    asked_to_store on old new (put_call (upload_of ready) moment) (TouchesNew ready.store ready.begin.key moment) (SetsRow ready.begin.key) (Stamps ready.begin.key moment) result tt ready.store content
     (MayGo (config_of old.config) ready.begin.key ready.store × AreBytes (upload_of ready) (content_of ready.file))
     (λ told. (may, subst (λ (l : List ℕ). AreBytes (upload_of ready) l) (sym (are told).1) (are told).0))
     (λ told. subst (λ (l : List ℕ). IfOk result (λ (asset : Asset). on.tree new.disk (bytes_name asset.blob) ≡ Some l)) (are told).1 (made told))

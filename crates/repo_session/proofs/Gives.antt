@@ -21,7 +21,7 @@ use Rattle.repo_model.specs.History.{Follows}
 use Rattle.repo_model.specs.Plain.{config_of}
 use Rattle.http_front.specs.Contents.{Contents}
 use Rattle.repo_core.specs.View.{CoreView}
-use Rattle.repo_core.specs.Asks.{looks_at, SetsRow, TouchesNone}
+use Rattle.repo_core.specs.Asks.{looks_at, KeepsAll, SetsRow, TouchesNone}
 use Rattle.repo_core.specs.Called as core
 use Rattle.repo_core.specs.Answers.{IsFull, HasRoom, entry_of}
 use Rattle.repo_core.specs.Standing.{Moves}
@@ -98,4 +98,4 @@ module _ {D T R : Type 0} (devices : Devices D T) (left : R → List ℕ) (size 
       → IfOk result (GotFile left (devices.tree old.disk)) → IfOk result (GotContent left) → IfOk result (GivesHeld left contents)
   look_gives result done told some opened file content =
       gives_held result (λ full. (done.full full).0.answer) (λ cause room is. (done.broken cause room is).answer)
-      (λ room. moves_of devices old new (call.Get key l moment remote.NotAsked) found_in TouchesNone (SetsRow key) result done told some room s stands.tracks) opened file content
+      (λ room. moves_of devices old new (call.Get key l moment remote.NotAsked) found_in TouchesNone (SetsRow key) KeepsAll result done told some room s stands.tracks) opened file content

@@ -134,3 +134,26 @@ returns-in-Err-temp-clause-why g c =
     let found = g.T.Keeper.found c.may_replace.new.table in
     subst (λ (w : Fault). WhyNotBegun config counts key found (refusal_of_fault w)) (sym c.disk_fault.ensures)
     (failed_begin config counts key found opens.0 opens.1 (λ keeps. c.in_default.ensures.free (sym opens.2 ∙ keeps)) c.in-Err-temp.refusal)
+
+pub returns-clause-counted : goal.returns-clause-counted
+returns-clause-counted g c =
+    let own = c.args.own.now in
+    let chosen = c.in-Ok.chosen in
+    let group = c.in-Ok.ensures.group in
+    let own_is : c.count_upload.new.own ≡ record own { counts = map.insert own.counts chosen.group ((chosen.count + 1) % 2 ^ 64) } = search rules in (
+      group.0,
+      group.1,
+      own_is
+          ∙ ap (λ (n : List ℕ). record own { counts = map.insert own.counts n ((chosen.count + 1) % 2 ^ 64) }) group.2
+          ∙ ap (λ (n : ℕ). record own { counts = map.insert own.counts (write_store group.0) ((n + 1) % 2 ^ 64) }) group.3,
+    )
+
+pub returns-in_default-copy_begin-clause-ends : goal.returns-in_default-copy_begin-clause-ends
+returns-in_default-copy_begin-clause-ends g c = λ told some s a.
+    let config = config_of c.args.config.now in
+    let tree = g.D.Disk.tree c.args.disk.now in
+    let before = g.T.Keeper.table c.args.table.now in
+    let after = g.T.Keeper.table c.may_replace.new.table in (
+      fault_denies config s (call.Begin c.args.begin.now) fault.Memory a.sound,
+      agrees_same config tree tree (rows_in before) (rows_in after) c.args.own.now c.args.own.now s (λ n out. refl) (rows_same before after some c.may_replace.ensures.same) refl a,
+    )

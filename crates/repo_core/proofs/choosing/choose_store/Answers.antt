@@ -89,3 +89,15 @@ returns-in-Err-clause-why c = λ found.
     let opened : bars_put repo ≡ false = search rules in
     let found : chosen (group_of config repo) (unwrap_or (map.get counts (write_store repo)) 0) ≡ Some store = search rules in
     (may_put_by config key repo some opened, ap (λ (o : Option (List ℕ)). is_some o) (store_by config counts key repo some (Some store) found))
+
+pub returns-in-Ok-clause-group : goal.returns-in-Ok-clause-group
+returns-in-Ok-clause-group c =
+    let config = config_of c.args.config.now in
+    let key = c.args.begin.now.key in
+    let counts = c.args.own.now.counts in
+    let repo = c.in-Some.repo.now in
+    let store = c.in-Some-choose.store.now in
+    let some : repo_of config key.repo ≡ Some repo = search rules in
+    let count : c.unwrap_or-count.result ≡ unwrap_or (map.get counts (write_store repo)) 0 = search rules in
+    let is : c.in-Ok.chosen ≡ record { store = store; copy = store; group = repo.store; count = c.unwrap_or-count.result; policy = repo.policy } = c.in-Ok.ensures in
+    (repo, some, ap (λ (x : Chosen). x.group) is, ap (λ (x : Chosen). x.count) is ∙ count)

@@ -1,4 +1,4 @@
-use Rattle.std.proofs.Common.{◌≡◌, ◌⊎◌, inl, ℕ, Some, List, [], Err, codes, ⊎_elim, OnOk, refl, sym, ◌∙◌, ap, subst, Option, Result}
+use Rattle.std.proofs.Common.{◌≡◌, true≢false, ◌⊎◌, inl, ℕ, Some, List, [], Err, codes, ⊎_elim, OnOk, refl, sym, ◌∙◌, ap, subst, Option, Result}
 use Rattle.std.specs.FinMap as map
 use Rattle.nx_base.specs.Order.{key_cmp}
 use Rattle.nx_base.specs.declared.asset.Asset.{Asset}
@@ -262,3 +262,21 @@ returns-in-Ok-show-clause-marked g c = λ told some s asset a row.
     let may = c.in-Ok.ensures.row here s a.sound a.rows_are in
     row_marked (tree c.args.disk.now) (tree c.show.new.disk) deleted c.time.result (time_of c.args.now) c.in-Ok.asset asset _ may.0 row c.time.ensures
     (has_mark g.D.Writer.Writer.content (tree c.args.disk.now) (tree c.show.new.disk) c.in-Ok.asset.blob deleted c.time.result mark (c.in-Ok-stage.ensures.mark told) (c.in-Ok-show.ensures.named told))
+
+pub returns-in-Err-clause-keeps : goal.returns-in-Err-clause-keeps
+returns-in-Err-clause-keeps g c = λ moment is made. absurd (true≢false made)
+
+pub returns-in-Err-stage-clause-keeps : goal.returns-in-Err-stage-clause-keeps
+returns-in-Err-stage-clause-keeps g c = λ moment is made. absurd (true≢false made)
+
+pub returns-in-Ok-show-clause-keeps : goal.returns-in-Ok-show-clause-keeps
+returns-in-Ok-show-clause-keeps g c = λ moment is made. (
+  c.in-Ok.asset,
+  c.in-Ok-stage.ensures.trash ∙ ap (λ (t : ℕ). record c.args.own.now { trash = discarded c.args.own.now.trash c.args.key.now c.in-Ok.asset t }) (c.time.ensures ∙ ap time_of (sym is)),
+)
+
+pub returns-clause-keeps : goal.returns-clause-keeps
+returns-clause-keeps g c = λ moment is made. (
+  c.in-Ok.asset,
+  c.in-Ok-stage.ensures.trash ∙ ap (λ (t : ℕ). record c.args.own.now { trash = discarded c.args.own.now.trash c.args.key.now c.in-Ok.asset t }) (c.time.ensures ∙ ap time_of (sym is)),
+)

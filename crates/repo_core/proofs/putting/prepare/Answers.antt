@@ -6,6 +6,7 @@ use Rattle.repo_core.specs.Puts.{IsNext, MayReplace}
 use Rattle.repo_core.proofs.Puttings.{may_not_replace, no_next, prepared}
 use Rattle.repo_core.proofs.Whys.{no_stamp, on_ok, unstaged_puts}
 use Rattle.repo_core.proofs.Texts.{olds_are_there}
+use Rattle.repo_core.proofs.Keepings.{put_stamped, put_trashed}
 use Rattle.repo_core.proofs.putting.prepare.Goals as goal
 
 pub returns-in-Err-clause-ready : goal.returns-in-Err-clause-ready
@@ -47,3 +48,11 @@ returns-clause-opens g c = on_ok _ c.stage_put.result (c.in-Ok.ensures.free, c.i
 
 pub returns-clause-old : goal.returns-clause-old
 returns-clause-old g c = λ told. olds_are_there g.D.Writer.Writer.content (g.D.Disk.tree c.args.disk.now) c.time-at.result (option_copied c.as_ref.result) c.stage_put.result (c.stage_put.ensures.mark told)
+
+pub returns-clause-keeps : goal.returns-clause-keeps
+returns-clause-keeps g c =
+    put_trashed c.args.own.now c.stage_put.new.own c.args.upload.now.key c.args.moment.now c.time-at.result (option_copied c.as_ref.result) c.stage_put.result c.time-at.ensures c.stage_put.ensures.trash
+
+pub returns-clause-stamp : goal.returns-clause-stamp
+returns-clause-stamp g c =
+    put_stamped c.args.store.now c.args.own.now.last c.args.moment.now c.args.upload.now c.in-Ok-next_blob.blob c.stage_put.result c.in-Ok-next_blob.ensures.0 c.stage_put.ensures.new

@@ -469,3 +469,23 @@ returns-clause-table g c =
     tells_then (λ s t. t ≡ s) (λ t u. (u ≡ t) ⊎ (u ≡ changed t c.in-Ok.staged.new.change)) (λ s u. (u ≡ s) ⊎ SetsRow c.args.upload.now.key s u)
     (g.T.Keeper.table c.args.table.now) (g.T.Keeper.table c.prepare.new.table) (g.T.Keeper.table c.show_new.new.table)
     (λ s t u first second. same_then_sets c.args.upload.now.key c.in-Ok.staged.new.change s t u c.in-Ok.ensures.sets first second) c.prepare.ensures.rows c.show_new.ensures.table
+
+pub returns-in-Err-clause-keeps : goal.returns-in-Err-clause-keeps
+returns-in-Err-clause-keeps g c = λ made. absurd (true≢false made)
+
+pub returns-in-Err-show_new-clause-keeps : goal.returns-in-Err-show_new-clause-keeps
+returns-in-Err-show_new-clause-keeps g c = λ made. (c.prepare.new.own, c.in-Ok.ensures.keeps, ap (λ (n : ℕ). record c.prepare.new.own { last = n }) c.in-Ok.ensures.stamp)
+
+pub returns-in_default-mark-clause-keeps : goal.returns-in_default-mark-clause-keeps
+returns-in_default-mark-clause-keeps g c = λ made. (c.prepare.new.own, c.in-Ok.ensures.keeps, ap (λ (n : ℕ). record c.prepare.new.own { last = n }) c.in-Ok.ensures.stamp)
+
+pub returns-in-Ok-place-clause-keeps : goal.returns-in-Ok-place-clause-keeps
+returns-in-Ok-place-clause-keeps g c = λ made. (c.prepare.new.own, c.in-Ok.ensures.keeps, ap (λ (n : ℕ). record c.prepare.new.own { last = n }) c.in-Ok.ensures.stamp)
+
+pub returns-clause-keeps : goal.returns-clause-keeps
+returns-clause-keeps g c = λ made. (c.prepare.new.own, c.in-Ok.ensures.keeps, ap (λ (n : ℕ). record c.prepare.new.own { last = n }) c.in-Ok.ensures.stamp)
+
+pub returns-in_default-mark-clause-clean_rows : goal.returns-in_default-mark-clause-clean_rows
+returns-in_default-mark-clause-clean_rows g c =
+    tells_then _ _ _ (g.T.Keeper.table c.args.table.now) (g.T.Keeper.table c.prepare.new.table) (g.T.Keeper.table c.show_new.new.table)
+    (λ s t u first second denied. absurd (true≢false (sym denied))) c.prepare.ensures.rows c.in_default.ensures.rows

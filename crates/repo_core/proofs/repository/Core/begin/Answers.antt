@@ -6,7 +6,7 @@ use Rattle.repo_model.specs.History.{Follows}
 use Rattle.repo_model.specs.Plain.{config_of}
 use Rattle.repo_core.specs.declared.beginning.Begun.{Begun}
 use Rattle.repo_core.specs.Answers.{entry_of, is_denied, stopped}
-use Rattle.repo_core.specs.Asks.{begins, TouchesNone, AltersNone}
+use Rattle.repo_core.specs.Asks.{begins, Counts, TouchesNone, AltersNone}
 use Rattle.repo_core.specs.Barred.{BarredBy}
 use Rattle.repo_core.specs.Begun.{begun_in, begun_or_refused}
 use Rattle.repo_core.specs.Called.{parts_of}
@@ -19,26 +19,26 @@ use Rattle.repo_core.proofs.Answering.{tells_map}
 use Rattle.repo_core.proofs.Barrings.{barred_alone}
 use Rattle.repo_core.proofs.BeginSteps.{next_begun}
 use Rattle.repo_core.proofs.CallsMade.{left_by, called_done, survives_done}
-use Rattle.repo_core.proofs.WorkAnswers.{breaks_nothing, if_stopped, never_stopped, stopped_answers, stopped_cause}
+use Rattle.repo_core.proofs.WorkAnswers.{breaks_nothing, if_stopped, never_stopped, not_denied_counts, stopped_answers, stopped_cause}
 use Rattle.repo_core.proofs.Works.{worked_quietly}
 use Rattle.repo_core.proofs.Whys.{barred_why, said_why, stopped_why}
 use Rattle.repo_core.proofs.repository.Core.begin.Goals as goal
 
 pub returns-in-Some-clause-called : goal.returns-in-Some-clause-called
 returns-in-Some-clause-called g c =
-    (barred_alone (devices g.D.Disk g.T.Keeper) c.args.caller (call.Begin c.args.begin) begun_in TouchesNone AltersNone c.args.self.now c.turn_away.new.self c.in-Some.why c.beginning.result
+    (barred_alone (devices g.D.Disk g.T.Keeper) c.args.caller (call.Begin c.args.begin) begun_in TouchesNone AltersNone (Counts (config_of c.args.self.now.config) c.args.begin.key) c.args.self.now c.turn_away.new.self c.in-Some.why c.beginning.result
     c.in-Some.ensures (c.beginning.ensures ∙ ap (λ (r : Reply). record { caller = c.args.caller; call = call.Begin c.args.begin; reply = r }) c.refused.ensures) c.turn_away.ensures.full c.turn_away.ensures.entry).0
 
 pub returns-in-Some-clause-survives : goal.returns-in-Some-clause-survives
 returns-in-Some-clause-survives g c =
-    (barred_alone (devices g.D.Disk g.T.Keeper) c.args.caller (call.Begin c.args.begin) begun_in TouchesNone AltersNone c.args.self.now c.turn_away.new.self c.in-Some.why c.beginning.result
+    (barred_alone (devices g.D.Disk g.T.Keeper) c.args.caller (call.Begin c.args.begin) begun_in TouchesNone AltersNone (Counts (config_of c.args.self.now.config) c.args.begin.key) c.args.self.now c.turn_away.new.self c.in-Some.why c.beginning.result
     c.in-Some.ensures (c.beginning.ensures ∙ ap (λ (r : Reply). record { caller = c.args.caller; call = call.Begin c.args.begin; reply = r }) c.refused.ensures) c.turn_away.ensures.full c.turn_away.ensures.entry).1
 
 pub returns-clause-called : goal.returns-clause-called
 returns-clause-called g c = rw (← c.self.view_is) (
     let on = devices g.D.Disk g.T.Keeper in
-    let ask = begins {W = g.row.D-Writer.Denot} c.args.caller c.args.begin in
     let core = c.self.inside in
+    let ask = begins {W = g.row.D-Writer.Denot} (config_of core.config) c.args.caller c.args.begin in
     let did = c.begin_upload-done in
     let at = did.ensures in
     let upload : Begun g.row.D-Writer.Denot → _ = λ begun. begun.upload in
@@ -51,7 +51,7 @@ returns-clause-called g c = rw (← c.self.view_is) (
     (stopped_answers upload begun_or_refused (λ begun. refl) (λ why. refl) did.result c.begun-reply.result.1 c.begun-reply.ensures.answer) free refl
     did.new.disk did.new.table did.new.own core.holds.items None c.note.ensures (breaks_nothing (length core.journal.entries) did.result) (ap (λ (e : Entry). e ∷ []) entry_is)
     (worked_quietly on ask (config_of core.config) (parts_of old) (parts_of left) (stopped did.result) (λ s image has. inl has) (record { files = at.tree; moments = at.any_moment; shown = at.shown })
-    (tells_map (λ s t. t ≡ s) (λ s t. (t ≡ s) ⊎ AltersNone s t) (g.T.Keeper.table core.table) (g.T.Keeper.table did.new.table) (λ s t same. inl same) at.rows)
+    (tells_map (λ s t. t ≡ s) (λ s t. (t ≡ s) ⊎ AltersNone s t) (g.T.Keeper.table core.table) (g.T.Keeper.table did.new.table) (λ s t same. inl same) at.rows) (not_denied_counts (Counts (config_of core.config) c.args.begin.key core.own did.new.own) did.result at.counted)
     (tells_map (λ s t. t ≡ s) (λ s t. is_denied (stopped did.result) ≡ true → t ≡ s) (g.T.Keeper.table core.table) (g.T.Keeper.table did.new.table) (λ s t same denied. same) at.rows)
     (if_stopped (did.new.own ≡ core.own) did.result at.clean) (λ broke. never_stopped _ did.result broke) (λ _. at.changes) at.lasting
     (stopped_cause IsDisk _ _ did.result at.disk_cause) (stopped_cause IsKeeper _ _ did.result at.keeper_cause))
@@ -67,8 +67,8 @@ returns-clause-called g c = rw (← c.self.view_is) (
 pub returns-clause-survives : goal.returns-clause-survives
 returns-clause-survives g c = rw (← c.self.view_is) (
     let on = devices g.D.Disk g.T.Keeper in
-    let ask = begins {W = g.row.D-Writer.Denot} c.args.caller c.args.begin in
     let core = c.self.inside in
+    let ask = begins {W = g.row.D-Writer.Denot} (config_of core.config) c.args.caller c.args.begin in
     let did = c.begin_upload-done in
     let at = did.ensures in
     let upload : Begun g.row.D-Writer.Denot → _ = λ begun. begun.upload in
@@ -81,7 +81,7 @@ returns-clause-survives g c = rw (← c.self.view_is) (
     (stopped_answers upload begun_or_refused (λ begun. refl) (λ why. refl) did.result c.begun-reply.result.1 c.begun-reply.ensures.answer) free refl
     did.new.disk did.new.table did.new.own core.holds.items None c.note.ensures (breaks_nothing (length core.journal.entries) did.result) (ap (λ (e : Entry). e ∷ []) entry_is)
     (worked_quietly on ask (config_of core.config) (parts_of old) (parts_of left) (stopped did.result) (λ s image has. inl has) (record { files = at.tree; moments = at.any_moment; shown = at.shown })
-    (tells_map (λ s t. t ≡ s) (λ s t. (t ≡ s) ⊎ AltersNone s t) (g.T.Keeper.table core.table) (g.T.Keeper.table did.new.table) (λ s t same. inl same) at.rows)
+    (tells_map (λ s t. t ≡ s) (λ s t. (t ≡ s) ⊎ AltersNone s t) (g.T.Keeper.table core.table) (g.T.Keeper.table did.new.table) (λ s t same. inl same) at.rows) (not_denied_counts (Counts (config_of core.config) c.args.begin.key core.own did.new.own) did.result at.counted)
     (tells_map (λ s t. t ≡ s) (λ s t. is_denied (stopped did.result) ≡ true → t ≡ s) (g.T.Keeper.table core.table) (g.T.Keeper.table did.new.table) (λ s t same denied. same) at.rows)
     (if_stopped (did.new.own ≡ core.own) did.result at.clean) (λ broke. never_stopped _ did.result broke) (λ _. at.changes) at.lasting
     (stopped_cause IsDisk _ _ did.result at.disk_cause) (stopped_cause IsKeeper _ _ did.result at.keeper_cause)))

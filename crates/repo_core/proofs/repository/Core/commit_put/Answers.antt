@@ -6,7 +6,7 @@ use Rattle.repo_model.specs.History.{Follows}
 use Rattle.repo_model.specs.Plain.{config_of}
 use Rattle.repo_core.specs.declared.putting.Kept.{Kept}
 use Rattle.repo_core.specs.Answers.{reply_of, entry_of}
-use Rattle.repo_core.specs.Asks.{puts, TouchesNew, SetsRow}
+use Rattle.repo_core.specs.Asks.{puts, Stamps, TouchesNew, SetsRow}
 use Rattle.repo_core.specs.Called.{parts_of}
 use Rattle.repo_core.specs.Devices.{devices}
 use Rattle.repo_core.specs.Parts.{StandFor}
@@ -26,14 +26,14 @@ use Rattle.repo_core.proofs.repository.Core.commit_put.Goals as goal
 
 pub returns-in-Some-clause-called : goal.returns-in-Some-clause-called
 returns-in-Some-clause-called g c =
-    (barred_with_file (devices g.D.Disk g.T.Keeper) c.args.caller (put_call (upload_of c.args.ready) c.args.moment) (λ asset. reply.Stored asset) (TouchesNew c.args.ready.store c.args.ready.begin.key c.args.moment) (SetsRow c.args.ready.begin.key) c.args.self.now c.turn_away.new.self c.in-Some.why c.put.result
+    (barred_with_file (devices g.D.Disk g.T.Keeper) c.args.caller (put_call (upload_of c.args.ready) c.args.moment) (λ asset. reply.Stored asset) (TouchesNew c.args.ready.store c.args.ready.begin.key c.args.moment) (SetsRow c.args.ready.begin.key) (Stamps c.args.ready.begin.key c.args.moment) c.args.self.now c.turn_away.new.self c.in-Some.why c.put.result
     c.in-Some.ensures (c.put.ensures ∙ ap (λ (r : Reply). record { caller = c.args.caller; call = put_call (upload_of c.args.ready) c.args.moment; reply = r }) c.refused.ensures) c.args.ready.store
     (MayGo (config_of c.args.self.now.config) c.args.ready.begin.key c.args.ready.store × AreBytes (upload_of c.args.ready) (g.D.Writer.Writer.content c.args.ready.file))
     c.drop_file.new.self c.drop_file.ensures.rest c.drop_file.ensures.back c.turn_away.ensures.full c.turn_away.ensures.entry).0
 
 pub returns-in-Some-clause-survives : goal.returns-in-Some-clause-survives
 returns-in-Some-clause-survives g c =
-    (barred_with_file (devices g.D.Disk g.T.Keeper) c.args.caller (put_call (upload_of c.args.ready) c.args.moment) (λ asset. reply.Stored asset) (TouchesNew c.args.ready.store c.args.ready.begin.key c.args.moment) (SetsRow c.args.ready.begin.key) c.args.self.now c.turn_away.new.self c.in-Some.why c.put.result
+    (barred_with_file (devices g.D.Disk g.T.Keeper) c.args.caller (put_call (upload_of c.args.ready) c.args.moment) (λ asset. reply.Stored asset) (TouchesNew c.args.ready.store c.args.ready.begin.key c.args.moment) (SetsRow c.args.ready.begin.key) (Stamps c.args.ready.begin.key c.args.moment) c.args.self.now c.turn_away.new.self c.in-Some.why c.put.result
     c.in-Some.ensures (c.put.ensures ∙ ap (λ (r : Reply). record { caller = c.args.caller; call = put_call (upload_of c.args.ready) c.args.moment; reply = r }) c.refused.ensures) c.args.ready.store
     (MayGo (config_of c.args.self.now.config) c.args.ready.begin.key c.args.ready.store × AreBytes (upload_of c.args.ready) (g.D.Writer.Writer.content c.args.ready.file))
     c.drop_file.new.self c.drop_file.ensures.rest c.drop_file.ensures.back c.turn_away.ensures.full c.turn_away.ensures.entry).1
@@ -53,7 +53,7 @@ returns-clause-called g c = rw (← c.self.view_is) (
     called_done on ask old c.note.new.self c.stored-reply.result.1 c.put-2.result (λ (kept : Kept). kept.asset) did.result c.len.result
     (answers_as (λ (kept : Kept). kept.asset) asset_of (λ kept. refl) (λ why. refl) did.result c.answer_of.result c.stored-reply.result.1 c.answer_of.ensures c.stored-reply.ensures.answer) free c.len.ensures
     did.new.disk did.new.table did.new.own core.holds.items c.cause_of-cause.result c.note.ensures c.cause_of-cause.ensures (ap (λ (e : Entry). e ∷ []) entry_is)
-    (worked_by on ask (config_of core.config) (parts_of old) (parts_of left) did.result (λ told some may. at.crash told some may.0 may.1) at.durable at.stays (λ told some may. at.rest told some may.0) at.table at.clean_files at.clean_moments at.clean_rows at.clean_own (λ broke. inl (at.shown broke)) at.unshown at.lasting at.disk_cause at.keeper_cause)
+    (worked_by on ask (config_of core.config) (parts_of old) (parts_of left) did.result (λ told some may. at.crash told some may.0 may.1) at.durable at.stays (λ told some may. at.rest told some may.0) at.table at.keeps at.clean_files at.clean_moments at.clean_rows at.clean_own (λ broke. inl (at.shown broke)) at.unshown at.lasting at.disk_cause at.keeper_cause)
     (λ told some may s a.
     let asked = put_call (upload_of c.args.ready) c.args.moment in
     let next = next_at (config_of core.config) (length core.journal.entries) c.args.caller s c.args.ready.store asked (λ kept. reply.Stored kept.asset) (StandFor on (config_of core.config) (parts_of left)) did.result
@@ -86,7 +86,7 @@ returns-clause-survives g c = rw (← c.self.view_is) (
     survives_done on ask old c.note.new.self c.stored-reply.result.1 c.put-2.result (λ (kept : Kept). kept.asset) did.result c.len.result
     (answers_as (λ (kept : Kept). kept.asset) asset_of (λ kept. refl) (λ why. refl) did.result c.answer_of.result c.stored-reply.result.1 c.answer_of.ensures c.stored-reply.ensures.answer) free c.len.ensures
     did.new.disk did.new.table did.new.own core.holds.items c.cause_of-cause.result c.note.ensures c.cause_of-cause.ensures (ap (λ (e : Entry). e ∷ []) entry_is)
-    (worked_by on ask (config_of core.config) (parts_of old) (parts_of left) did.result (λ told some may. at.crash told some may.0 may.1) at.durable at.stays (λ told some may. at.rest told some may.0) at.table at.clean_files at.clean_moments at.clean_rows at.clean_own (λ broke. inl (at.shown broke)) at.unshown at.lasting at.disk_cause at.keeper_cause))
+    (worked_by on ask (config_of core.config) (parts_of old) (parts_of left) did.result (λ told some may. at.crash told some may.0 may.1) at.durable at.stays (λ told some may. at.rest told some may.0) at.table at.keeps at.clean_files at.clean_moments at.clean_rows at.clean_own (λ broke. inl (at.shown broke)) at.unshown at.lasting at.disk_cause at.keeper_cause))
 
 pub returns-in-Some-clause-why : goal.returns-in-Some-clause-why
 returns-in-Some-clause-why g c =

@@ -13,7 +13,7 @@ use Rattle.repo_model.specs.History.{Follows}
 use Rattle.repo_model.specs.Plain.{config_of}
 use Rattle.repo_core.specs.declared.given.Given.{Given}
 use Rattle.repo_core.specs.Answers.{reply_of, entry_of}
-use Rattle.repo_core.specs.Asks.{looks_at, TouchesNone, SetsRow}
+use Rattle.repo_core.specs.Asks.{looks_at, KeepsAll, TouchesNone, SetsRow}
 use Rattle.repo_core.specs.Called.{parts_of}
 use Rattle.repo_core.specs.Devices.{devices}
 use Rattle.repo_core.specs.Got.{GotContent}
@@ -34,13 +34,13 @@ use Rattle.repo_core.proofs.repository.Core.get.Goals as goal
 pub returns-in-Some-clause-called : goal.returns-in-Some-clause-called
 returns-in-Some-clause-called g c =
     let asked = call.Get c.args.key c.args.look c.args.moment remote.NotAsked in
-    (barred_alone (devices g.D.Disk g.T.Keeper) c.args.caller asked found_in TouchesNone (SetsRow c.args.key) c.args.self.now c.turn_away.new.self c.in-Some.why c.look_entry.result
+    (barred_alone (devices g.D.Disk g.T.Keeper) c.args.caller asked found_in TouchesNone (SetsRow c.args.key) KeepsAll c.args.self.now c.turn_away.new.self c.in-Some.why c.look_entry.result
     c.in-Some.ensures (c.look_entry.ensures ∙ ap (λ (r : Reply). record { caller = c.args.caller; call = asked; reply = r }) c.refused.ensures) c.turn_away.ensures.full c.turn_away.ensures.entry).0
 
 pub returns-in-Some-clause-survives : goal.returns-in-Some-clause-survives
 returns-in-Some-clause-survives g c =
     let asked = call.Get c.args.key c.args.look c.args.moment remote.NotAsked in
-    (barred_alone (devices g.D.Disk g.T.Keeper) c.args.caller asked found_in TouchesNone (SetsRow c.args.key) c.args.self.now c.turn_away.new.self c.in-Some.why c.look_entry.result
+    (barred_alone (devices g.D.Disk g.T.Keeper) c.args.caller asked found_in TouchesNone (SetsRow c.args.key) KeepsAll c.args.self.now c.turn_away.new.self c.in-Some.why c.look_entry.result
     c.in-Some.ensures (c.look_entry.ensures ∙ ap (λ (r : Reply). record { caller = c.args.caller; call = asked; reply = r }) c.refused.ensures) c.turn_away.ensures.full c.turn_away.ensures.entry).1
 
 pub tell-reply-requires : goal.tell-reply-requires
@@ -65,7 +65,7 @@ returns-clause-called g c = rw (← c.self.view_is) (
     called_done on ask old c.note.new.self c.tell-reply.result.answer c.look_entry-2.result got_given did.result c.len-number.result
     (answers_as got_given got_of (λ given. refl) (λ why. refl) did.result c.answer_of.result c.tell-reply.result.answer c.answer_of.ensures c.tell-reply.ensures.answer) free c.len-number.ensures
     did.new.disk did.new.table core.own c.tell-reply.new.holds.items c.cause_of-cause.result c.note.ensures c.cause_of-cause.ensures (ap (λ (e : Entry). e ∷ []) entry_is)
-    (worked_quietly on ask (config_of core.config) (parts_of old) (parts_of left) did.result (λ s image has. inl has) (record { files = λ told n out. ap (λ (t : Tree). t n) (at.tree told); moments = at.any_moment; shown = at.shown }) at.table at.clean_rows (λ _. refl) at.changed at.unchanged at.lasting at.disk_cause at.keeper_cause)
+    (worked_quietly on ask (config_of core.config) (parts_of old) (parts_of left) did.result (λ s image has. inl has) (record { files = λ told n out. ap (λ (t : Tree). t n) (at.tree told); moments = at.any_moment; shown = at.shown }) at.table (λ _. refl) at.clean_rows (λ _. refl) at.changed at.unchanged at.lasting at.disk_cause at.keeper_cause)
     (λ told some _ s a.
     let next = next_done (config_of core.config) (length core.journal.entries) c.args.caller s asked says (StandFor on (config_of core.config) (parts_of left)) did.result
     c.answer_of.result c.cause_of-cause.result c.len-number.result c.answer_of.ensures c.cause_of-cause.ensures c.len-number.ensures refl a.sound (λ t stands. stands.sound) (at.ends told some core.own s a) in
@@ -99,7 +99,7 @@ returns-clause-survives g c = rw (← c.self.view_is) (
     survives_done on ask old c.note.new.self c.tell-reply.result.answer c.look_entry-2.result got_given did.result c.len-number.result
     (answers_as got_given got_of (λ given. refl) (λ why. refl) did.result c.answer_of.result c.tell-reply.result.answer c.answer_of.ensures c.tell-reply.ensures.answer) free c.len-number.ensures
     did.new.disk did.new.table core.own c.tell-reply.new.holds.items c.cause_of-cause.result c.note.ensures c.cause_of-cause.ensures (ap (λ (e : Entry). e ∷ []) entry_is)
-    (worked_quietly on ask (config_of core.config) (parts_of old) (parts_of left) did.result (λ s image has. inl has) (record { files = λ told n out. ap (λ (t : Tree). t n) (at.tree told); moments = at.any_moment; shown = at.shown }) at.table at.clean_rows (λ _. refl) at.changed at.unchanged at.lasting at.disk_cause at.keeper_cause))
+    (worked_quietly on ask (config_of core.config) (parts_of old) (parts_of left) did.result (λ s image has. inl has) (record { files = λ told n out. ap (λ (t : Tree). t n) (at.tree told); moments = at.any_moment; shown = at.shown }) at.table (λ _. refl) at.clean_rows (λ _. refl) at.changed at.unchanged at.lasting at.disk_cause at.keeper_cause))
 
 pub returns-clause-content : goal.returns-clause-content
 returns-clause-content g c = rw (← c.self.view_is) (λ told some s tracks.
