@@ -25,7 +25,7 @@ use Rattle.repo_core.specs.Rows.{contents_in}
 use Rattle.repo_core.specs.Stores.{homes_of}
 use Rattle.repo_core.specs.Standing.{Tracks}
 use Rattle.repo_core.specs.View.{CoreView}
-use Rattle.repo_session.specs.Devices.{Devices}
+use Rattle.repo_core.specs.Devices.{Devices}
 use Rattle.repo_session.specs.Standing.{Stands}
 use Rattle.repo_session.specs.Drawing.{draw_of}
 use Rattle.repo_session.specs.Turned.{setting_of, disk_faults_in, keeper_faults_in, DownloadFails}

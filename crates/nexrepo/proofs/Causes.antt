@@ -9,7 +9,7 @@ use Rattle.http_front.specs.declared.end.End.TheVariants as ends
 use Rattle.http_front.specs.Sessions.{HasEndCause}
 use Rattle.repo_core.specs.View.{CoreView}
 use Rattle.repo_session.specs.Called.{Since}
-use Rattle.repo_session.specs.Devices.{Devices}
+use Rattle.repo_core.specs.Devices.{Devices}
 use Rattle.nexrepo.specs.Ends.{Counts, HasStatusCause, fault_status, ordinary_status, status_of}
 
 module _ {D T : Type 0} (devices : Devices D T) (core new : CoreView D T) (entries : List Entry) (sound : core.broken ≡ None) (since : Since devices core new entries) (reads reads' writes writes' : ℕ) where

@@ -13,7 +13,7 @@ use Rattle.repo_core.specs.Rows.{contents_in, rows_in}
 use Rattle.repo_core.specs.Stores.{homes_of}
 use Rattle.repo_core.specs.View.{CoreView}
 use Rattle.repo_core.proofs.Beginnings.{empty_files}
-use Rattle.repo_session.specs.Devices.{Devices}
+use Rattle.repo_core.specs.Devices.{Devices}
 use Rattle.repo_session.specs.Serving.{HasTurns, HasTurnsPast}
 use Rattle.repo_session.specs.Turned.{DownloadFails}
 use Rattle.nexrepo.specs.declared.run.Ran.{Ran}

@@ -12,7 +12,7 @@ use Rattle.repo_core.specs.Fresh.{HasNoBlob, fresh_core}
 use Rattle.repo_core.specs.Rows.{rows_in}
 use Rattle.repo_core.specs.Standing.{Tracks}
 use Rattle.repo_core.specs.View.{CoreView}
-use Rattle.repo_session.specs.Devices.{Devices}
+use Rattle.repo_core.specs.Devices.{Devices}
 use Rattle.nexrepo.specs.declared.opening.Unopened.{Unopened}
 use Rattle.nexrepo.specs.declared.status.Status.{Status}
 use Rattle.nexrepo.specs.declared.status.Status.TheVariants as status

@@ -23,7 +23,7 @@ use Rattle.http_front.specs.Turns.{Setting, Turn, AreTurns, entries_of, requests
 use Rattle.repo_core.specs.Fresh.{HasNoBlob}
 use Rattle.repo_core.specs.Rows.{contents_in, rows_in}
 use Rattle.repo_core.specs.Stores.{homes_of}
-use Rattle.repo_session.specs.Devices.{Devices}
+use Rattle.repo_core.specs.Devices.{Devices}
 use Rattle.repo_session.specs.Drawing.{draw_of}
 use Rattle.repo_session.specs.Turned.{disk_faults_in, keeper_faults_in}
 use Rattle.repo_session.specs.Serving.{LastEnds, all_stop_faults}

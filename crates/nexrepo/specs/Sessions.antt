@@ -4,7 +4,7 @@ use Rattle.http_front.specs.declared.end.End.{End}
 use Rattle.http_front.specs.Sessions.{EndsAs}
 use Rattle.nx_base.specs.declared.moment.Moment.{Moment}
 use Rattle.repo_core.specs.View.{CoreView}
-use Rattle.repo_session.specs.Devices.{Devices}
+use Rattle.repo_core.specs.Devices.{Devices}
 use Rattle.repo_session.specs.Serving.{HasTurns, HasTurnsPast}
 use Rattle.repo_session.specs.Turned.{DownloadFails}
 use Rattle.nexrepo.specs.declared.run.Ran.{Ran}

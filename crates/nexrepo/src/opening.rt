@@ -4,7 +4,7 @@ ghost use Rattle.std.specs.Option.{option_map};
 ghost use Rattle.disk_model.specs.Disk.{small_limit};
 ghost use Rattle.repo_config.specs.declared.config_err.ConfigErr.{ConfigErr};
 ghost use Rattle.repo_core.specs.declared.opening.OpenErr.TheVariants as open_err;
-ghost use Rattle.repo_session.specs.Devices.{devices};
+ghost use Rattle.repo_core.specs.Devices.{devices};
 ghost use Rattle.nexrepo.specs.declared.status.Status.TheVariants as status;
 ghost use Rattle.nexrepo.specs.Configs.{FileGives};
 ghost use Rattle.nexrepo.specs.Opening.{refusal_status, IsOpenRefusal, IsOpened, IsUnopened};
@@ -82,8 +82,8 @@ pub fn open<D: Disk, T: Keeper>(
     table: T,
     random: [u8; 10],
 ) -> Result<Core<D, T>, Unopened<D, T>>
-    ensures opened { IfOk result (IsOpened (devices D.told D.tree T.table D.faults T.faults) disk table) }
-    ensures unopened { IfErr result (IsUnopened (devices D.told D.tree T.table D.faults T.faults) disk table) }
+    ensures opened { IfOk result (IsOpened (devices D.Disk T.Keeper) disk table) }
+    ensures unopened { IfErr result (IsUnopened (devices D.Disk T.Keeper) disk table) }
 {
     let mut disk = disk;
     let config = match read_config(alloc, &mut disk) {

@@ -2,7 +2,7 @@ ghost use Rattle.std.specs.Prelude.{◌≡◌, ◌≢◌, ◌<◌, ◌↔◌, �
 ghost use Rattle.nx_base.specs.declared.moment.Moment.{Moment};
 ghost use Rattle.repo_config.specs.Model.{model_of};
 ghost use Rattle.repo_config.specs.Settings.{Settings};
-ghost use Rattle.repo_session.specs.Devices.{devices};
+ghost use Rattle.repo_core.specs.Devices.{devices};
 ghost use Rattle.repo_session.specs.Drawing.{HasDrawn};
 ghost use Rattle.nexrepo.specs.declared.status.Status.TheVariants as status;
 ghost use Rattle.nexrepo.specs.Commands.{texts_of};
@@ -52,11 +52,11 @@ pub fn run<S: Source, K: Sink, D: Disk, T: Keeper>(
     // BadConfig only where the file of the configuration isn't there or is refused, with the key of which the refusal speaks.
     ensures configuration { D.told → (key : Option (List ℕ)) → result.status ≡ status.BadConfig key → IsBadFile (D.tree disk config_file) key }
     // Either nothing was read or written, or a session was held with the settings that the file gives.
-    ensures session { EndsEarly (devices D.told D.tree T.table D.faults T.faults) disk table input.old input.new output.old output.new result
-        ⊎ HoldsSession (devices D.told D.tree T.table D.faults T.faults) moments.now disk table (S.left input.old) (S.left input.new) (S.ended input.new) (K.taken output.old) (K.taken output.new) result }
+    ensures session { EndsEarly (devices D.Disk T.Keeper) disk table input.old input.new output.old output.new result
+        ⊎ HoldsSession (devices D.Disk T.Keeper) moments.now disk table (S.left input.old) (S.left input.new) (S.ended input.new) (K.taken output.old) (K.taken output.new) result }
     // Over fresh devices the journal is a history of the one-thread repository from its beginning on, and the devices stand for what it leads to.
-    ensures history { (settings : Settings) → FileGives (D.tree disk config_file) settings → IsFresh (devices D.told D.tree T.table D.faults T.faults) disk table result.table
-        → StandsBehind (devices D.told D.tree T.table D.faults T.faults) (model_of settings) result.journal.entries result.disk result.table }
+    ensures history { (settings : Settings) → FileGives (D.tree disk config_file) settings → IsFresh (devices D.Disk T.Keeper) disk table result.table
+        → StandsBehind (devices D.Disk T.Keeper) (model_of settings) result.journal.entries result.disk result.table }
     // A fault of a device is told only where its count rose.
     ensures cause { HasStatusCause (record { reads = S.faults input.old; writes = K.faults output.old; disk = D.faults disk; keeper = T.faults table })
         (record { reads = S.faults input.new; writes = K.faults output.new; disk = D.faults result.disk; keeper = T.faults result.table }) result.status }
@@ -92,10 +92,10 @@ fn stdio<S: Source, K: Sink, D: Disk, T: Keeper>(
     requires { 0 < length moments.now }
     ensures command { result.status ≢ status.Usage }
     ensures configuration { D.told → (key : Option (List ℕ)) → result.status ≡ status.BadConfig key → IsBadFile (D.tree disk config_file) key }
-    ensures session { EndsEarly (devices D.told D.tree T.table D.faults T.faults) disk table input.old input.new output.old output.new result
-        ⊎ HoldsSession (devices D.told D.tree T.table D.faults T.faults) moments.now disk table (S.left input.old) (S.left input.new) (S.ended input.new) (K.taken output.old) (K.taken output.new) result }
-    ensures history { (settings : Settings) → FileGives (D.tree disk config_file) settings → IsFresh (devices D.told D.tree T.table D.faults T.faults) disk table result.table
-        → StandsBehind (devices D.told D.tree T.table D.faults T.faults) (model_of settings) result.journal.entries result.disk result.table }
+    ensures session { EndsEarly (devices D.Disk T.Keeper) disk table input.old input.new output.old output.new result
+        ⊎ HoldsSession (devices D.Disk T.Keeper) moments.now disk table (S.left input.old) (S.left input.new) (S.ended input.new) (K.taken output.old) (K.taken output.new) result }
+    ensures history { (settings : Settings) → FileGives (D.tree disk config_file) settings → IsFresh (devices D.Disk T.Keeper) disk table result.table
+        → StandsBehind (devices D.Disk T.Keeper) (model_of settings) result.journal.entries result.disk result.table }
     ensures cause { HasStatusCause (record { reads = S.faults input.old; writes = K.faults output.old; disk = D.faults disk; keeper = T.faults table })
         (record { reads = S.faults input.new; writes = K.faults output.new; disk = D.faults result.disk; keeper = T.faults result.table }) result.status }
 {
@@ -119,7 +119,7 @@ fn session<S: Source, K: Sink, D: Disk, T: Keeper>(
     requires free { slice_get core.holds 0 ≡ Some None }
     requires sound { core.broken ≡ None }
     requires first { draws.next ≡ 0 }
-    ensures session { HasServed (devices D.told D.tree T.table D.faults T.faults) core draws.moments.items (S.left input.old) (S.left input.new) (S.ended input.new) (K.taken output.old) (K.taken output.new) result }
+    ensures session { HasServed (devices D.Disk T.Keeper) core draws.moments.items (S.left input.old) (S.left input.new) (S.ended input.new) (K.taken output.old) (K.taken output.new) result }
     ensures cause { HasStatusCause (record { reads = S.faults input.old; writes = K.faults output.old; disk = D.faults core.disk; keeper = T.faults core.table })
         (record { reads = S.faults input.new; writes = K.faults output.new; disk = D.faults result.disk; keeper = T.faults result.table }) result.status }
 {

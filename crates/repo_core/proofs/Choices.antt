@@ -1,15 +1,19 @@
 -- The store that is chosen for an upload is one that its repository may write to.
-use Rattle.std.proofs.Common.{◌≡◌, ℕ, zero, suc, length, Bool, true, false, ◌||◌, List, [], ◌∷◌, Some, refl, ◌∙◌, ap}
+use Rattle.std.proofs.Common.{◌≡◌, ℕ, zero, suc, length, Bool, true, false, not, ◌||◌, List, [], ◌∷◌, Option, Some, None, unwrap_or, refl, ◌∙◌, ap}
+use Rattle.std.specs.FinMap as map
 use Rattle.std.specs.List.{list_any, slice_get}
 use Rattle.std.specs.Option.{option_map}
 use Rattle.std.proofs.lemmas.Map.Text.{is_eq-slice_cmp}
 use Rattle.std.proofs.lemmas.Slice.Eq.{bytes_eq-Decides}
-use Rattle.nx_base.specs.Order.{same_name}
+use Rattle.nx_base.specs.Given.{given}
+use Rattle.nx_base.specs.Order.{same_name, name_cmp}
 use Rattle.nx_base.specs.Fills.{writable, turn, chosen}
 use Rattle.nx_base.specs.declared.key.Key.{Key}
 use Rattle.nx_base.specs.declared.member.Member.{Member}
-use Rattle.repo_model.specs.Config.{Config, Repo, repo_of, group_of}
+use Rattle.repo_model.specs.Config.{Config, Repo, repo_of, group_of, write_store}
+use Rattle.repo_model.specs.Writing.{bars_put}
 use Rattle.repo_core.specs.Puts.{MayGo}
+use Rattle.repo_core.specs.Why.{may_put, store_of}
 
 same_itself : (name : List ℕ) → same_name name name ≡ true
 same_itself name = is_eq-slice_cmp name name ∙ (bytes_eq-Decides name name).1 refl
@@ -36,3 +40,12 @@ chosen_may_go config key store count repo is found = record {
   declared = is;
   takes_it = is_among (writable (group_of config repo)) (turn (group_of config repo).fill count (length (writable (group_of config repo)))) store found;
 }
+
+-- of a repository that is declared
+pub may_put_by : (config : Config) (key : Key) (repo : Repo) → repo_of config key.repo ≡ Some repo → bars_put repo ≡ false → may_put config key ≡ true
+may_put_by config key repo some opened = ap (λ (o : Option Repo). given o false (λ (r : Repo). not (bars_put r))) some ∙ ap not opened
+
+pub store_by : (config : Config) (counts : map.FinMap name_cmp ℕ) (key : Key) (repo : Repo) → repo_of config key.repo ≡ Some repo → (store : Option (List ℕ))
+    → chosen (group_of config repo) (unwrap_or (map.get counts (write_store repo)) 0) ≡ store → store_of config counts key ≡ store
+store_by config counts key repo some store is =
+    ap (λ (o : Option Repo). given o None (λ (r : Repo). chosen (group_of config r) (unwrap_or (map.get counts (write_store r)) 0))) some ∙ is

@@ -16,7 +16,7 @@ use Rattle.repo_model.specs.Stamps.{time_of, next_stamp}
 use Rattle.repo_model.specs.Outcome.{answered}
 use Rattle.repo_model.specs.Storing.{with_asset, new_asset}
 use Rattle.repo_model.specs.Deleting.{discarded}
-use Rattle.repo_model.specs.Step.{Step, outcome}
+use Rattle.repo_model.specs.Step.{outcome}
 use Rattle.disk_model.specs.Disk.{Tree, Lists, Same, Rest}
 use Rattle.disk_model.specs.Moments.{During, MayPut, Settled, EachImage}
 use Rattle.disk_model.proofs.Chain.{weaker, and_then}
@@ -61,16 +61,13 @@ module _ {S : Type 0} (content : S → List ℕ) (config : Config) (tree : Tree)
   put_outcome : outcome config s store (put_call upload moment) ≡ answered after (reply.Stored staged.new.asset)
   put_outcome = p.step ∙ ap (λ (x : Asset). answered after (reply.Stored x)) (sym p.new.asset_is)
 
-  put_step : Step config s (put_call upload moment) (reply.Stored staged.new.asset) after
-  put_step = (store, put_outcome)
-
   -- while the files are shown
   pub crash_one : {D : Type 0} (clock : D → ℕ) (lists : D → ℕ → Lists) (d0 d1 d2 : D) (before : Tree) → Same tree before → Settled tree (lists d0 (clock d0))
       → During clock lists d0 d1 (Same (lists d0 (clock d0))) → During clock lists d1 d2 (Creates staged.new.files.place bytes staged.new.text.items (lists d1 (clock d1)))
-      → During clock lists d0 d2 (EachImage (BeforeOrAfter config s (put_call upload moment)))
+      → During clock lists d0 d2 (EachImage (BeforeOrAfter config s store (put_call upload moment)))
   crash_one clock lists d0 d1 d2 before same settled first second =
-      crash_created config tree s a.files upload blob new_one refl later staged.new p.new p.free clock lists d0 d1 d2 (put_call upload moment) after (reply.Stored staged.new.asset) before bytes
-      put_step refl refl same settled first second
+      crash_created config tree s a.files upload blob new_one refl later staged.new p.new p.free clock lists d0 d1 d2 store (put_call upload moment) after (reply.Stored staged.new.asset) before bytes
+      put_outcome refl refl same settled first second
 
   module _ (before mid : Tree) (same : Same tree before) (its_bytes : mid (bytes_at staged.new.files.place) ≡ Some bytes) (its_text : mid (props_at staged.new.files.place) ≡ Some staged.new.text.items)
       (rest : RestOfPlace staged.new.files.place before mid) where
@@ -137,12 +134,12 @@ module _ {S : Type 0} (content : S → List ℕ) (config : Config) (tree : Tree)
 
       -- while the old blob is marked
       pub crash_two : {D : Type 0} (clock : D → ℕ) (lists : D → ℕ → Lists) (d0 d2 d3 : D) → Settled mid (lists d2 (clock d2))
-          → During clock lists d0 d2 (EachImage (BeforeOrAfter config s (put_call upload moment)))
+          → During clock lists d0 d2 (EachImage (BeforeOrAfter config s store (put_call upload moment)))
           → During clock lists d2 d3 (MayPut (props_at mark.files.place) (Some (content mark.file)) (lists d2 (clock d2)))
-          → During clock lists d0 d3 (EachImage (BeforeOrAfter config s (put_call upload moment)))
+          → During clock lists d0 d3 (EachImage (BeforeOrAfter config s store (put_call upload moment)))
       crash_two clock lists d0 d2 d3 settled first second =
           let start = lists d2 (clock d2) in
-          let P : Lists → Type 0 = EachImage (BeforeOrAfter config s (put_call upload moment)) in
+          let P : Lists → Type 0 = EachImage (BeforeOrAfter config s store (put_call upload moment)) in
           and_then clock lists P d0 d2 d3 first
           (weaker clock lists (MayPut (props_at mark.files.place) (Some (content mark.file)) start) P d2 d3
           (λ l put image here.
@@ -151,7 +148,7 @@ module _ {S : Type 0} (content : S → List ℕ) (config : Config) (tree : Tree)
           inr (
             reply.Stored staged.new.asset,
             after,
-            put_step,
+            put_outcome,
             refl,
             image_replaced config tree s a.files upload blob new_one refl later staged.new p.new p.free mid made old.0 old.1 old.2.props was text start l settled
                 (with_mark old.2.props (codes "Replaced") at, old.2.says, refl) at_text image here,

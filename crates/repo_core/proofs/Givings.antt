@@ -1,5 +1,5 @@
 -- How the giving up of a key's row goes: what crashes leave, and what it comes to.
-use Rattle.std.proofs.Common.{◌≡◌, ◌⊎◌, inl, inr, ⊎_elim, ℕ, List, Option, Some, None, IsTrue, refl, sym, ◌∙◌, ap, subst}
+use Rattle.std.proofs.Common.{◌≡◌, ◌⊎◌, inl, inr, ⊎_elim, ℕ, List, Option, Some, None, IsTrue, refl, sym, ◌∙◌, ap, subst, []}
 use Rattle.std.specs.Option.{option_map}
 use Rattle.std.specs.FinMap as map
 use Rattle.nx_base.specs.Order.{key_cmp, age_cmp}
@@ -12,7 +12,8 @@ use Rattle.repo_model.specs.declared.deletion.Deletion.{Deletion}
 use Rattle.repo_model.specs.Config.{Config}
 use Rattle.repo_model.specs.State.{State, row_of}
 use Rattle.repo_model.specs.Deleting.{discarded, without_row}
-use Rattle.repo_model.specs.Step.{Step}
+use Rattle.repo_model.specs.Outcome.{answered}
+use Rattle.repo_model.specs.Step.{outcome}
 use Rattle.disk_model.specs.Disk.{Tree, Lists, Same, Rest}
 use Rattle.disk_model.specs.Moments.{During, MayPut, Settled, EachImage, IsImage}
 use Rattle.disk_model.proofs.Chain.{weaker, same_then_put}
@@ -55,11 +56,11 @@ module _ (config : Config) (tree : Tree) (s : State) (a : FilesAgree config tree
   same_contents image same key = (tmp_same homes tree image same key (contents_in s.rows key)).0 (has_contents key)
 
   -- while nothing can be seen, each image has the contents before
-  pub crash_same : {D : Type 0} (clock : D → ℕ) (lists : D → ℕ → Lists) (old new : D) (c : Call) → Settled tree (lists old (clock old))
-      → During clock lists old new (Same (lists old (clock old))) → During clock lists old new (EachImage (BeforeOrAfter config s c))
-  crash_same clock lists old new c settled run =
+  pub crash_same : {D : Type 0} (clock : D → ℕ) (lists : D → ℕ → Lists) (old new : D) (store : List ℕ) (c : Call) → Settled tree (lists old (clock old))
+      → During clock lists old new (Same (lists old (clock old))) → During clock lists old new (EachImage (BeforeOrAfter config s store c))
+  crash_same clock lists old new store c settled run =
       let start = lists old (clock old) in
-      weaker clock lists (Same start) (EachImage (BeforeOrAfter config s c)) old new
+      weaker clock lists (Same start) (EachImage (BeforeOrAfter config s store c)) old new
       (λ l same image is. inl (same_contents image (same_image tree start l settled same image is))) run
 
   module _ (key : Key) (asset : Asset) (row : row_of s key ≡ Some asset) where
@@ -120,14 +121,14 @@ module _ (config : Config) (tree : Tree) (s : State) (a : FilesAgree config tree
           same_then_put clock lists (props_name blob) (Some text) old mid new (outside blob Properties ref) first said
 
       -- while the mark is put, each image has the contents before, or those of a step that takes the row away
-      pub crash_marked : {D : Type 0} (clock : D → ℕ) (lists : D → ℕ → Lists) (old mid new : D) (after : State) (said : Reply) → Step config s c said after
+      pub crash_marked : {D : Type 0} (clock : D → ℕ) (lists : D → ℕ → Lists) (old mid new : D) (after : State) (said : Reply) → outcome config s [] c ≡ answered after said
           → IsTrue (is_done said) → after.rows ≡ map.remove s.rows key
           → Settled tree (lists old (clock old)) → During clock lists old mid (Same (lists old (clock old)))
           → During clock lists mid new (MayPut (props_at mark.files.place) (Some (content mark.file)) (lists mid (clock mid)))
-          → During clock lists old new (EachImage (BeforeOrAfter config s c))
+          → During clock lists old new (EachImage (BeforeOrAfter config s [] c))
       crash_marked clock lists old mid new after said step done rows settled first second =
           let start = lists old (clock old) in
-          weaker clock lists (MayPut (props_name blob) (Some text) start) (EachImage (BeforeOrAfter config s c)) old new
+          weaker clock lists (MayPut (props_name blob) (Some text) start) (EachImage (BeforeOrAfter config s [] c)) old new
           (λ l put image is. ⊎_elim (λ before. inl before)
           (λ gone. inr (said, after, step, done, subst (λ (r : map.FinMap key_cmp Asset). HasContents homes (contents_in r) image) (sym rows) gone))
           (image_marked start l settled put image is))

@@ -23,3 +23,13 @@ pub mod Tellings
 pub mod Stays
 pub mod Breaks
 pub mod Choices
+pub mod WorkAnswers
+pub mod Whys
+pub mod Rests
+pub mod GivenUp
+pub mod Texts
+pub mod Keepings
+pub mod Works
+pub mod Returnings
+pub mod CallsMade
+pub mod Barrings

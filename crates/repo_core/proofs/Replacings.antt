@@ -14,7 +14,8 @@ use Rattle.repo_model.specs.declared.call.Call.{Call}
 use Rattle.repo_model.specs.declared.reply.Reply.{Reply}
 use Rattle.repo_model.specs.Config.{Config, Repo, group_of}
 use Rattle.repo_model.specs.State.{State, row_of}
-use Rattle.repo_model.specs.Step.{Step}
+use Rattle.repo_model.specs.Outcome.{answered}
+use Rattle.repo_model.specs.Step.{outcome}
 use Rattle.repo_model.specs.Storing.{new_asset}
 use Rattle.disk_model.specs.Disk.{Tree, Lists, Same}
 use Rattle.disk_model.specs.Moments.{During, MayPut, Settled, EachImage, IsImage}
@@ -185,15 +186,15 @@ module _ (config : Config) (tree : Tree) (s : State) (a : FilesAgree config tree
           λ k. (same k (contents_in rows k)).0 (new_contents k)
 
   -- while the files are shown, each image has the contents before, or those of the step
-  pub crash_created : {D : Type 0} (clock : D → ℕ) (lists : D → ℕ → Lists) (d0 d1 d2 : D) (c : Call) (after : State) (said : Reply) (before : Tree) (bytes : List ℕ)
-      → Step config s c said after → IsTrue (is_done said) → after.rows ≡ rows → Same tree before → Settled tree (lists d0 (clock d0))
+  pub crash_created : {D : Type 0} (clock : D → ℕ) (lists : D → ℕ → Lists) (d0 d1 d2 : D) (store : List ℕ) (c : Call) (after : State) (said : Reply) (before : Tree) (bytes : List ℕ)
+      → outcome config s store c ≡ answered after said → IsTrue (is_done said) → after.rows ≡ rows → Same tree before → Settled tree (lists d0 (clock d0))
       → During clock lists d0 d1 (Same (lists d0 (clock d0))) → During clock lists d1 d2 (Creates made.files.place bytes made.text.items (lists d1 (clock d1)))
-      → During clock lists d0 d2 (EachImage (BeforeOrAfter config s c))
-  crash_created clock lists d0 d1 d2 c after said before bytes step done rows_are same settled first second =
-      let P : Lists → Type 0 = EachImage (BeforeOrAfter config s c) in
+      → During clock lists d0 d2 (EachImage (BeforeOrAfter config s store c))
+  crash_created clock lists d0 d1 d2 store c after said before bytes step done rows_are same settled first second =
+      let P : Lists → Type 0 = EachImage (BeforeOrAfter config s store c) in
       let start = lists d1 (clock d1) in
       let settled_there = settled_same tree before (lists d0 (clock d0)) start settled same (at_end clock lists d0 d1 (Same (lists d0 (clock d0))) first) in
-      and_then clock lists P d0 d1 d2 (crash_same config tree s a clock lists d0 d1 c settled first)
+      and_then clock lists P d0 d1 d2 (crash_same config tree s a clock lists d0 d1 store c settled first)
       (weaker clock lists (Creates made.files.place bytes made.text.items start) P d1 d2
       (λ l creates image is. ⊎_elim (λ old. inl old)
       (λ new_one. inr (said, after, step, done, subst (λ (r : map.FinMap key_cmp Asset). HasContents homes (contents_in r) image) (sym rows_are) new_one))

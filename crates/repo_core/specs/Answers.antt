@@ -7,6 +7,7 @@ use Rattle.repo_model.specs.declared.reply.Refusal.{Refusal}
 use Rattle.repo_model.specs.declared.reply.Reply.{Reply}
 use Rattle.repo_model.specs.declared.reply.Reply.TheVariants as reply
 use Rattle.repo_model.specs.Journal.{JournalView}
+use Rattle.repo_core.specs.declared.denial.Denial.{Denial}
 use Rattle.repo_core.specs.declared.stop.Stop.{Stop}
 use Rattle.repo_core.specs.declared.stop.Stop.TheVariants as stop
 use Rattle.repo_core.specs.Faults.{refusal_of_fault, refusal_for}
@@ -54,3 +55,8 @@ abbrev pub is_broke : {A : Type 0} → Result A Stop → Bool
 is_broke (Ok value) = false
 is_broke (Err (stop.Denied why)) = false
 is_broke (Err (stop.Broke what)) = true
+
+-- how a work ends that is never stopped halfway
+abbrev pub stopped : {A : Type 0} → Result A Denial → Result A Stop
+stopped (Ok value) = Ok value
+stopped (Err why) = Err (stop.Denied why)

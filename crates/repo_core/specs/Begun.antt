@@ -1,5 +1,5 @@
 -- Uploads that are begun.
-use Rattle.std.specs.Prelude.{◌≡◌, ◌⊎◌, ◌&&◌, [], true, false, is_some, unwrap_or, Some, Result, Ok, Err}
+use Rattle.std.specs.Prelude.{◌≡◌, ℕ, ◌⊎◌, ◌&&◌, [], true, false, is_some, unwrap_or, Some, Result, Ok, Err}
 use Rattle.std.specs.Option.{option_map}
 use Rattle.nx_base.specs.Fills.{chosen}
 use Rattle.nx_base.specs.declared.key.Key.{Key}
@@ -23,6 +23,7 @@ use Rattle.repo_core.specs.declared.denial.Denial.{Denial}
 use Rattle.repo_core.specs.declared.denial.Denial.TheVariants as denial
 use Rattle.repo_core.specs.Faults.{of_keeper, refusal_for}
 use Rattle.repo_core.specs.Ends.{Denies}
+use Rattle.repo_core.specs.Puts.{MayGo}
 
 -- the store of a new upload of a repository that may be put into, with what is needed to count it
 pub record IsChosen (config : Config) (s : State) (begin : Begin) (c : Chosen) : Type 0 where
@@ -60,3 +61,10 @@ begun_or_refused (Err why) = Err (refusal_for why)
 abbrev pub EndsBegin : {W : Type 0} → Config → State → Begin → (State → Type 0) → Result (Begun W) Denial → Type 0
 EndsBegin config s begin agrees (Ok begun) = (new : State) × Step config s (call.Begin begin) (begun_in begun.upload) new × agrees new
 EndsBegin config s begin agrees (Err why) = Denies config s (call.Begin begin) why × agrees s
+
+-- An upload that has just begun: it is of this begin, the key's repository may write to its store, its writer hasn't failed, and it isn't dead.
+pub record IsBegunFor {W : Type 0} (faults : W → ℕ) (config : Config) (begin : Begin) (upload : Upload W) : Type 0 where
+  pub target : option_map (λ (t : Target). t.begin) upload.target ≡ Some begin
+  pub may_go : (t : Target) → upload.target ≡ Some t → MayGo config begin.key t.store
+  pub sound : faults upload.writer ≡ 0
+  pub alive : upload.dead ≡ false

@@ -36,6 +36,11 @@ refusal_for denial.StampsUsed = refusal.StampsUsed
 refusal_for (denial.Damaged size found) = refusal.Damaged size found
 refusal_for (denial.Failed what) = refusal_of_fault what
 
+-- and how a stop is told
+abbrev pub refusal_of_stop : Stop → Refusal
+refusal_of_stop (stop.Denied why) = refusal_for why
+refusal_of_stop (stop.Broke what) = refusal_of_fault what
+
 -- the device that failed, of a fault, a denial, a stop, and a refusal
 abbrev pub IsDisk : Fault → Type 0
 IsDisk fault.Disk = Unit {0}

@@ -13,3 +13,12 @@ pub mod Got
 pub mod Looking
 pub mod Begun
 pub mod Stays
+pub mod Devices
+pub mod Asks
+pub mod Parts
+pub mod Called
+pub mod Survives
+pub mod Returned
+pub mod Barred
+pub mod Worked
+pub mod Why

@@ -8,7 +8,8 @@ use Rattle.repo_model.specs.declared.reply.Reply.{Reply}
 use Rattle.repo_model.specs.declared.reply.Reply.TheVariants as reply
 use Rattle.repo_model.specs.Config.{Config}
 use Rattle.repo_model.specs.State.{State}
-use Rattle.repo_model.specs.Step.{Step, outcome}
+use Rattle.repo_model.specs.Outcome.{answered}
+use Rattle.repo_model.specs.Step.{outcome}
 use Rattle.repo_model.specs.History.{LegalFrom}
 use Rattle.repo_model.specs.Plain.{config_of}
 use Rattle.disk_model.specs.Disk.{Tree, Lists}
@@ -81,8 +82,8 @@ is_done reply.Removed = true
 is_done (reply.Reconciled kept) = true
 is_done (reply.Refused why) = false
 
--- the tree has the contents before the call, or those after a step by which it is done
-abbrev pub BeforeOrAfter : Config → State → Call → Tree → Type 0
-BeforeOrAfter config s c image =
+-- The tree has the contents before the call, or those after the step by which it is done. The store is that of the upload that it ends.
+abbrev pub BeforeOrAfter : Config → State → List ℕ → Call → Tree → Type 0
+BeforeOrAfter config s store c image =
     HasContents (homes_of config) (contents_in s.rows) image
-    ⊎ ((said : Reply) × (new : State) × Step config s c said new × IsTrue (is_done said) × HasContents (homes_of config) (contents_in new.rows) image)
+    ⊎ ((said : Reply) × (new : State) × (outcome config s store c ≡ answered new said) × IsTrue (is_done said) × HasContents (homes_of config) (contents_in new.rows) image)

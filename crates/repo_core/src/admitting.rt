@@ -1,16 +1,18 @@
 //! Whether a content may be put, and as which blob.
-ghost use Rattle.std.specs.Prelude.{◌≡◌, ◌⊎◌, Err, IfErr, IsSome, Some, true};
+ghost use Rattle.std.specs.Prelude.{◌≡◌, ◌⊎◌, ◌&&◌, ℕ, Option, IfErr, OnOk, IsSome, Some, false};
 ghost use Rattle.nx_io.specs.Causes.{HasCauseWhere};
 ghost use Rattle.nx_base.specs.declared.policy.Policy.TheVariants.{NoRedeploy};
-ghost use Rattle.asset_keeper.specs.Told.{Tells};
+ghost use Rattle.asset_keeper.specs.Told.{Tells, Lasts};
 ghost use Rattle.asset_keeper.specs.declared.keep_err.KeepErr.{KeepErr};
 ghost use Rattle.repo_model.specs.Config.{Repo, repo_of, is_no_redeploy};
 ghost use Rattle.repo_model.specs.State.{State};
 ghost use Rattle.repo_model.specs.Plain.{config_of};
 ghost use Rattle.repo_core.specs.declared.denial.Denial.TheVariants as denial;
-ghost use Rattle.repo_core.specs.Faults.{IsKeeper, DeniedBy, of_keeper};
+ghost use Rattle.nx_base.specs.declared.moment.Moment.{Moment};
+ghost use Rattle.repo_core.specs.Faults.{IsKeeper, DeniedBy, of_keeper, refusal_for};
 ghost use Rattle.repo_core.specs.Rows.{rows_in};
 ghost use Rattle.repo_core.specs.Puts.{MayReplace, IsNext};
+ghost use Rattle.repo_core.specs.Why.{WhyNotPut, keeps_rows};
 
 use crate::denial::{Denial, keeper_fault};
 use crate::rules::is_no_redeploy;
@@ -25,7 +27,8 @@ const GREATEST_STAMP: u64 = 0xffff_ffff_ffff;
 
 /// Whether what a key has may not be replaced.
 fn keeps_rows(config: &PlainConfig, key: &Key) -> bool
-    ensures { (repo : Repo) → repo_of (config_of config.now) key.now.repo ≡ Some repo → result ≡ is_no_redeploy repo.policy }
+    ensures policy { (repo : Repo) → repo_of (config_of config.now) key.now.repo ≡ Some repo → result ≡ is_no_redeploy repo.policy }
+    ensures keeps { result ≡ keeps_rows (config_of config.now) key.now }
 {
     match find_repo(&config.repos, &key.repo) {
         Some(repo) => is_no_redeploy(repo.policy),
@@ -40,9 +43,12 @@ pub(crate) fn row_to_replace<T: Keeper>(
     key: &Key,
 ) -> Result<Option<Asset>, Denial>
     ensures same { Tells (T.table table.old) (T.table table.new) (λ s t. t ≡ s) }
+    ensures changes { T.changes table.new ≡ T.changes table.old }
+    ensures lasting { Lasts T.lasts (T.table table.old) (T.table table.new) }
     ensures cause { HasCauseWhere (DeniedBy IsKeeper) (T.faults table.old) (T.faults table.new) result }
     ensures denied { IfErr result (λ why. (why ≡ denial.WriteDenied NoRedeploy) ⊎ ((refusal : KeepErr) × (why ≡ denial.Failed (of_keeper refusal)))) }
-    ensures no_redeploy { result ≡ Err (denial.WriteDenied NoRedeploy) → T.found table.new ≡ true }
+    ensures why { (last : ℕ) (moment : Moment) (looked : Option ℕ) → IfErr result (λ why. WhyNotPut (config_of config.now) last key.now moment (T.found table.new) looked (refusal_for why)) }
+    ensures free { OnOk result ((keeps_rows (config_of config.now) key.now && T.found table.new) ≡ false) }
     ensures row { IsSome (T.table table.new) → (s : State) → rows_in (T.table table.old) ≡ s.rows
         → (repo : Repo) → repo_of (config_of config.now) key.now.repo ≡ Some repo → MayReplace repo s key.now result }
 {

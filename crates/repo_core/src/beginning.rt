@@ -1,20 +1,20 @@
-ghost use Rattle.std.specs.Prelude.{◌≡◌, ◌+◌, ◌%◌, ◌^◌, [], IfOk, OnErr, OnOk, IsErrOf, IsSome, Some, true};
+ghost use Rattle.std.specs.Prelude.{◌≡◌, ◌+◌, ◌%◌, ◌^◌, [], IfOk, IfErr, OnErr, OnOk, IsSome, Some, false};
 ghost use Rattle.std.specs.FinMap as map;
 ghost use Rattle.nx_io.specs.Causes.{HasCauseWhere};
-ghost use Rattle.nx_base.specs.declared.policy.Policy.TheVariants as policies;
 ghost use Rattle.disk_model.specs.Disk.{Same};
 ghost use Rattle.disk_model.specs.Moments.{During};
-ghost use Rattle.asset_keeper.specs.Told.{Tells};
+ghost use Rattle.asset_keeper.specs.Told.{Tells, Lasts};
 ghost use Rattle.blob_files.specs.Uploads.{HasTaken};
 ghost use Rattle.repo_model.specs.State.{State};
 ghost use Rattle.repo_model.specs.Plain.{config_of};
 ghost use Rattle.repo_model.specs.declared.call.Kind.TheVariants as kinds;
-ghost use Rattle.repo_core.specs.declared.denial.Denial.TheVariants as denial;
 ghost use Rattle.repo_core.specs.Rows.{rows_in};
 ghost use Rattle.repo_core.specs.Agree.{Agrees};
-ghost use Rattle.repo_core.specs.Faults.{IsDisk, IsKeeper, DeniedBy};
+ghost use Rattle.repo_core.specs.Faults.{IsDisk, IsKeeper, DeniedBy, refusal_for};
+ghost use Rattle.repo_core.specs.Asks.{Counts};
 ghost use Rattle.repo_core.specs.Begun.{EndsBegin};
 ghost use Rattle.repo_core.specs.Puts.{MayGo};
+ghost use Rattle.repo_core.specs.Why.{WhyNotBegun};
 
 use crate::choosing::{Chosen, choose_store, may_replace};
 use crate::denial::{Denial, disk_fault};
@@ -28,7 +28,6 @@ use repo_model::{Begin, Fault};
 use std::alloc::Global;
 
 /// An upload that is begun, and a copy of its store's name for the journal.
-#[derive(Drop)]
 pub(crate) struct Begun<W> {
     pub(crate) upload: Upload<W>,
     pub(crate) store: StoreName,
@@ -71,13 +70,18 @@ pub(crate) fn begin_upload<D: Disk, T: Keeper>(
     ensures target { IfOk result (λ begun. begun.upload.target ≡ Some (record { begin = begin.now; store = begun.store })) }
     ensures may_go { IfOk result (λ begun. MayGo (config_of config.now) begin.now.key begun.store) }
     ensures sound { IfOk result (λ begun. D.Writer.faults begun.upload.writer ≡ 0) }
+    ensures alive { IfOk result (λ begun. begun.upload.dead ≡ false) }
     ensures taken { D.told → IfOk result (λ begun. HasTaken D.Writer.told D.Writer.written begun.upload []) }
     ensures tree { D.told → Same (D.tree disk.old) (D.tree disk.new) }
     ensures any_moment { D.told → During D.clock D.lists disk.old disk.new (Same (D.lists disk.old (D.clock disk.old))) }
+    ensures shown { D.shown disk.new ≡ D.shown disk.old }
     ensures rows { Tells (T.table table.old) (T.table table.new) (λ s t. t ≡ s) }
+    ensures changes { T.changes table.new ≡ T.changes table.old }
+    ensures lasting { Lasts T.lasts (T.table table.old) (T.table table.new) }
     ensures counts { own.new ≡ record own.old { counts = own.new.counts } }
     ensures clean { OnErr result (own.new ≡ own.old) }
-    ensures found { IsErrOf result (denial.WriteDenied policies.NoRedeploy) → T.found table.new ≡ true }
+    ensures counted { OnOk result (Counts (config_of config.now) begin.now.key own.old own.new) }
+    ensures why { IfErr result (λ why. WhyNotBegun (config_of config.now) own.old.counts begin.now.key (T.found table.new) (refusal_for why)) }
     ensures disk_cause { HasCauseWhere (DeniedBy IsDisk) (D.faults disk.old) (D.faults disk.new) result }
     ensures keeper_cause { HasCauseWhere (DeniedBy IsKeeper) (T.faults table.old) (T.faults table.new) result }
 {

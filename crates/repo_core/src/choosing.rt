@@ -1,13 +1,17 @@
-ghost use Rattle.std.specs.Prelude.{◌≡◌, IfOk, IfErr, IsErrOf, IsSome, Some, None, true};
+ghost use Rattle.std.specs.Prelude.{◌≡◌, ◌⊎◌, Bool, IfOk, OnOk, IfErr, IsSome, unwrap_or, Some, None, true, false};
 ghost use Rattle.nx_io.specs.Causes.{HasCauseWhere};
 ghost use Rattle.nx_base.specs.declared.policy.Policy.TheVariants as policies;
-ghost use Rattle.asset_keeper.specs.Told.{Tells};
+ghost use Rattle.asset_keeper.specs.Told.{Tells, Lasts};
 ghost use Rattle.repo_model.specs.State.{State};
 ghost use Rattle.repo_model.specs.Plain.{config_of};
 ghost use Rattle.repo_model.specs.declared.call.Kind.TheVariants as kinds;
 ghost use Rattle.repo_core.specs.declared.denial.Denial.TheVariants as denial;
 ghost use Rattle.repo_core.specs.Rows.{rows_in};
-ghost use Rattle.repo_core.specs.Faults.{IsDisk, IsKeeper, DeniedBy};
+ghost use Rattle.asset_keeper.specs.declared.keep_err.KeepErr.{KeepErr};
+ghost use Rattle.std.specs.FinMap as map;
+ghost use Rattle.repo_model.specs.Config.{Repo, repo_of, write_store, is_no_redeploy};
+ghost use Rattle.repo_core.specs.Faults.{IsDisk, IsKeeper, DeniedBy, of_keeper, refusal_for};
+ghost use Rattle.repo_core.specs.Why.{WhyNotBegun, may_put, keeps_rows, store_of};
 ghost use Rattle.repo_core.specs.Begun.{MayChoose, MayReplace};
 ghost use Rattle.repo_core.specs.Puts.{MayGo};
 
@@ -64,7 +68,9 @@ pub(crate) fn choose_store(
     ensures may_go { IfOk result (λ c. MayGo (config_of config.now) begin.now.key c.store) }
     ensures copy { IfOk result (λ c. c.copy ≡ c.store) }
     ensures nobody { IfErr result (λ why. ¬ DeniedBy IsDisk why × ¬ DeniedBy IsKeeper why) }
-    ensures replaceable { IfErr result (λ why. ¬ (why ≡ denial.WriteDenied policies.NoRedeploy)) }
+    ensures why { (found : Bool) → IfErr result (λ why. WhyNotBegun (config_of config.now) own.now.counts begin.now.key found (refusal_for why)) }
+    ensures group { IfOk result (λ c. (repo : Repo) × (repo_of (config_of config.now) begin.now.key.repo ≡ Some repo) × (c.group ≡ write_store repo) × (c.count ≡ unwrap_or (map.get own.now.counts (write_store repo)) 0)) }
+    ensures opens { IfOk result (λ c. (may_put (config_of config.now) begin.now.key ≡ true) × IsSome (store_of (config_of config.now) own.now.counts begin.now.key) × (keeps_rows (config_of config.now) begin.now.key ≡ is_no_redeploy c.policy)) }
 {
     let Some(repo) = find_repo(&config.repos, &begin.key.repo) else {
         return Err(Denial::UnknownRepo);
@@ -87,9 +93,12 @@ pub(crate) fn choose_store(
 /// Whether the key may get a new content. The keeper is asked only where the policy keeps what is there.
 pub(crate) fn may_replace<T: Keeper>(table: &mut T, policy: Policy, key: &Key) -> Result<(), Denial>
     ensures same { Tells (T.table table.old) (T.table table.new) (λ s t. t ≡ s) }
+    ensures changes { T.changes table.new ≡ T.changes table.old }
+    ensures lasting { Lasts T.lasts (T.table table.old) (T.table table.new) }
     ensures cause { HasCauseWhere (DeniedBy IsKeeper) (T.faults table.old) (T.faults table.new) result }
     ensures keeper_alone { IfErr result (λ why. ¬ DeniedBy IsDisk why) }
-    ensures found { IsErrOf result (denial.WriteDenied policies.NoRedeploy) → T.found table.new ≡ true }
+    ensures denied { IfErr result (λ why. (is_no_redeploy policy ≡ true) × (((why ≡ denial.WriteDenied policies.NoRedeploy) × (T.found table.new ≡ true)) ⊎ ((refusal : KeepErr) × (why ≡ denial.Failed (of_keeper refusal))))) }
+    ensures free { OnOk result (is_no_redeploy policy ≡ true → T.found table.new ≡ false) }
     ensures row { IsSome (T.table table.new) → (s : State) → rows_in (T.table table.old) ≡ s.rows → MayReplace s policy key.now result }
 {
     if !is_no_redeploy(policy) {

@@ -1,5 +1,5 @@
-ghost use Rattle.std.specs.Prelude.{◌≡◌, ◌<◌, ◌^◌, ◌∷◌, [], true, false, codes, IfOk, IfErr, OnOk, OnErr, IsErrOf, IsSome, IsTrue, Some, ℕ, Option, None};
-ghost use Rattle.nx_io.specs.Causes.{HasCauseWhere};
+ghost use Rattle.std.specs.Prelude.{◌≡◌, ◌⊎◌, ◌<◌, ◌^◌, ◌∷◌, [], true, false, codes, IfOk, IfErr, OnOk, OnErr, IsErrOf, IsSome, IsTrue, Some, ℕ, Option, None};
+ghost use Rattle.nx_io.specs.Causes.{Rose, HasCauseWhere};
 ghost use Rattle.disk_model.specs.Disk.{Same, Rest};
 ghost use Rattle.disk_model.specs.Moments.{During, MayPut, EachImage};
 ghost use Rattle.asset_keeper.specs.Table.{changed};
@@ -7,9 +7,12 @@ ghost use Rattle.asset_keeper.specs.Ranges.{change_in_range};
 ghost use Rattle.asset_keeper.specs.declared.change.Change.TheVariants as change;
 ghost use Rattle.tree_content.specs.Blobs.{props_at};
 ghost use Rattle.repo_model.specs.Deleting.{discarded};
-ghost use Rattle.repo_core.specs.Marks.{IsMarkOf, NotStaged};
-ghost use Rattle.asset_keeper.specs.Told.{Tells};
-ghost use Rattle.repo_model.specs.State.{State};
+ghost use Rattle.repo_core.specs.Marks.{IsMarkOf, HasMark, NotStaged};
+ghost use Rattle.asset_keeper.specs.Told.{Tells, Lasts};
+ghost use Rattle.nx_base.specs.declared.asset.Asset.{Asset};
+ghost use Rattle.nx_base.specs.declared.moment.Moment.{Moment};
+ghost use Rattle.repo_model.specs.State.{State, row_of};
+ghost use Rattle.repo_model.specs.Stamps.{time_of};
 ghost use Rattle.repo_model.specs.Plain.{config_of};
 ghost use Rattle.repo_model.specs.declared.call.Call.TheVariants as call;
 ghost use Rattle.repo_model.specs.declared.reply.Reply.TheVariants as reply;
@@ -17,11 +20,15 @@ ghost use Rattle.repo_core.specs.declared.denial.Denial.TheVariants as denial;
 ghost use Rattle.repo_core.specs.declared.stop.Stop.TheVariants as stop;
 ghost use Rattle.repo_core.specs.Rows.{rows_in};
 ghost use Rattle.repo_core.specs.Agree.{Agrees};
-ghost use Rattle.repo_core.specs.Faults.{IsDisk, IsKeeper, DeniedBy, StoppedBy};
+ghost use Rattle.repo_core.specs.Faults.{IsDisk, IsKeeper, DeniedBy, StoppedBy, refusal_for, refusal_of_stop};
 ghost use Rattle.repo_core.specs.Answers.{is_denied, is_broke};
 ghost use Rattle.repo_core.specs.Standing.{IsDurable, BeforeOrAfter};
 ghost use Rattle.repo_core.specs.Ends.{MayDelete, Ends};
 ghost use Rattle.repo_core.specs.Stays.{BytesStay};
+ghost use Rattle.repo_core.specs.Asks.{Discards, TouchesRow, RemovesRow};
+ghost use Rattle.repo_core.specs.Devices.{devices};
+ghost use Rattle.repo_core.specs.Parts.{KeepsRest};
+ghost use Rattle.repo_core.specs.Why.{WhyNotDeleted, may_delete};
 
 use crate::denial::{Denial, disk_fault, keeper_fault};
 use crate::marking::{Mark, stage_mark};
@@ -47,9 +54,12 @@ fn row_to_delete<T: Keeper>(
     now: u64,
 ) -> Result<Asset, Denial>
     ensures same { Tells (T.table table.old) (T.table table.new) (λ s t. t ≡ s) }
+    ensures changes { T.changes table.new ≡ T.changes table.old }
+    ensures lasting { Lasts T.lasts (T.table table.old) (T.table table.new) }
     ensures cause { HasCauseWhere (DeniedBy IsKeeper) (T.faults table.old) (T.faults table.new) result }
     ensures keeper_alone { IfErr result (λ why. ¬ DeniedBy IsDisk why) }
-    ensures not_found { IsErrOf result denial.NotFound → T.found table.new ≡ false }
+    ensures why { IfErr result (λ why. WhyNotDeleted (config_of config.now) key.now (T.found table.new) (refusal_for why)) }
+    ensures opens { OnOk result ((may_delete (config_of config.now) key.now ≡ true) × (T.found table.new ≡ true)) }
     ensures undamaged { (size : ℕ) (found : Option ℕ) → IsErrOf result (denial.Damaged size found) → ⊥ }
     ensures row { IsSome (T.table table.new) → (s : State) → s.broken ≡ None → rows_in (T.table table.old) ≡ s.rows → MayDelete (config_of config.now) s key.now now result }
 {
@@ -69,8 +79,7 @@ fn row_to_delete<T: Keeper>(
 }
 
 /// A deletion that stands ready: the mark of the blob, and the change that takes the row away.
-#[derive(Drop)]
-struct Staged<S: Drop> {
+struct Staged<S> {
     mark: Mark<S>,
     change: Change,
 }
@@ -90,6 +99,7 @@ fn stage<D: Disk>(
     ensures trash { OnOk result (own.new ≡ record own.old { trash = discarded own.old.trash key.now asset.now at }) }
     ensures tree { D.told → Same (D.tree disk.old) (D.tree disk.new) }
     ensures any_moment { D.told → During D.clock D.lists disk.old disk.new (Same (D.lists disk.old (D.clock disk.old))) }
+    ensures shown { D.shown disk.new ≡ D.shown disk.old }
     ensures denied { IfErr result (NotStaged D.told (D.tree disk.old) asset.now) }
     ensures clean { OnErr result (own.new ≡ own.old) }
     ensures cause { HasCauseWhere (DeniedBy IsDisk) (D.faults disk.old) (D.faults disk.new) result }
@@ -108,7 +118,8 @@ fn stage<D: Disk>(
         Err(refusal) => return Err(Denial::Failed(disk_fault(refusal))),
     };
     if own.discard(alloc, &asset.blob, key, at).is_err() {
-        disk.discard(mark.file);
+        let Mark { file, files: _ } = mark;
+        disk.discard(file);
         return Err(Denial::Failed(Fault::Memory));
     }
     Ok(Staged {
@@ -130,11 +141,15 @@ fn show<D: Disk, T: Keeper>(
     ensures settled { D.told → OnOk result (D.lists disk.new (D.clock disk.new) (props_at mark.files.place) ≡ Some (D.Writer.content mark.file) ∷ []) }
     ensures any_moment { D.told → During D.clock D.lists disk.old disk.new (MayPut (props_at mark.files.place) (Some (D.Writer.content mark.file)) (D.lists disk.old (D.clock disk.old))) }
     ensures rows { Tells (T.table table.old) (T.table table.new) (λ s t. OnOk result (t ≡ changed s change.now)) }
+    ensures table { Tells (T.table table.old) (T.table table.new) (λ s t. (t ≡ s) ⊎ (t ≡ changed s change.now)) }
     ensures found { T.found table.new ≡ T.found table.old }
+    ensures shown { Rose (D.shown disk.old) (D.shown disk.new) }
+    ensures lasting { Lasts T.lasts (T.table table.old) (T.table table.new) }
     ensures disk_cause { HasCauseWhere IsDisk (D.faults disk.old) (D.faults disk.new) result }
     ensures keeper_cause { HasCauseWhere IsKeeper (T.faults table.old) (T.faults table.new) result }
 {
-    if let Err(refusal) = place(disk, mark.file, &mark.files) {
+    let Mark { file, files } = mark;
+    if let Err(refusal) = place(disk, file, &files) {
         return Err(disk_fault(refusal));
     }
     match table.apply(change) {
@@ -159,18 +174,29 @@ pub(crate) fn give_up_row<D: Disk, T: Keeper>(
     // At every moment each image has the contents before or after.
     ensures crash { D.told → IsSome (T.table table.new) → (s : State) → Agrees (config_of config.now) (D.tree disk.old) (rows_in (T.table table.old)) own.old s
         → IsDurable D.tree D.clock D.lists disk.old
-        → During D.clock D.lists disk.old disk.new (EachImage (BeforeOrAfter (config_of config.now) s (call.Delete key.now now))) }
+        → During D.clock D.lists disk.old disk.new (EachImage (BeforeOrAfter (config_of config.now) s [] (call.Delete key.now now))) }
     ensures durable { D.told → is_broke result ≡ false → IsDurable D.tree D.clock D.lists disk.old → IsDurable D.tree D.clock D.lists disk.new }
+    // The blob's properties say when and why it was deleted, and else what they said.
+    ensures marked { D.told → IsSome (T.table table.new) → (s : State) (asset : Asset) → Agrees (config_of config.now) (D.tree disk.old) (rows_in (T.table table.old)) own.old s → row_of s key.now ≡ Some asset
+        → OnOk result (HasMark (D.tree disk.old) (D.tree disk.new) asset.blob (codes "Deleted by request") (time_of now)) }
+    // Other names keep their files, and the table changes by the key's row alone.
+    ensures rest { D.told → IsSome (T.table table.new) → (s : State) → Agrees (config_of config.now) (D.tree disk.old) (rows_in (T.table table.old)) own.old s
+        → KeepsRest (devices D.Disk T.Keeper) (TouchesRow key.now s) disk.old disk.new }
+    ensures table { Tells (T.table table.old) (T.table table.new) (λ s t. (t ≡ s) ⊎ RemovesRow key.now s t) }
     // No blob loses its content.
     ensures stays { D.told → BytesStay (D.tree disk.old) (D.tree disk.new) }
     // A denial leaves the files, the rows and what the core keeps.
     ensures clean_files { D.told → is_denied result ≡ true → Same (D.tree disk.old) (D.tree disk.new) }
     ensures clean_moments { D.told → is_denied result ≡ true → During D.clock D.lists disk.old disk.new (Same (D.lists disk.old (D.clock disk.old))) }
     ensures clean_own { is_denied result ≡ true → own.new ≡ own.old }
+    ensures keeps { (moment : Moment) → moment.now ≡ now → is_denied result ≡ false → Discards key.now moment own.old own.new }
     ensures clean_rows { Tells (T.table table.old) (T.table table.new) (λ s t. is_denied result ≡ true → t ≡ s) }
-    ensures not_found { IsErrOf result (stop.Denied denial.NotFound) → T.found table.new ≡ false }
-    // Damage is told without a length, and never of files that agree.
-    ensures damaged { (size : ℕ) (found : Option ℕ) → IsErrOf result (stop.Denied (denial.Damaged size found)) → found ≡ None }
+    // It is stopped halfway only behind the first visible step, or by it, and denied only before.
+    ensures shown { is_broke result ≡ true → Rose (D.shown disk.old) (D.shown disk.new) }
+    ensures unshown { is_denied result ≡ true → (D.shown disk.new ≡ D.shown disk.old) × (T.changes table.new ≡ T.changes table.old) }
+    ensures lasting { Lasts T.lasts (T.table table.old) (T.table table.new) }
+    ensures why { IfErr result (λ e. WhyNotDeleted (config_of config.now) key.now (T.found table.new) (refusal_of_stop e)) }
+    // Damage is never told of files that agree.
     ensures whole { D.told → IsSome (T.table table.new) → (s : State) → Agrees (config_of config.now) (D.tree disk.old) (rows_in (T.table table.old)) own.old s
         → (size : ℕ) (found : Option ℕ) → IsErrOf result (stop.Denied (denial.Damaged size found)) → ⊥ }
     ensures disk_cause { HasCauseWhere (StoppedBy IsDisk) (D.faults disk.old) (D.faults disk.new) result }
@@ -180,11 +206,11 @@ pub(crate) fn give_up_row<D: Disk, T: Keeper>(
         Ok(asset) => asset,
         Err(why) => return Err(Stop::Denied(why)),
     };
-    let staged = match stage(alloc, disk, own, key, &asset, time(now)) {
+    let Staged { mark, change } = match stage(alloc, disk, own, key, &asset, time(now)) {
         Ok(staged) => staged,
         Err(why) => return Err(Stop::Denied(why)),
     };
-    match show(disk, table, staged.mark, &staged.change) {
+    match show(disk, table, mark, &change) {
         Ok(()) => Ok(()),
         Err(fault) => Err(Stop::Broke(fault)),
     }

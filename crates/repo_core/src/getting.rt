@@ -1,9 +1,9 @@
-ghost use Rattle.std.specs.Prelude.{◌≡◌, ◌≢◌, ◌<◌, ◌^◌, ℕ, Option, Some, None, true, false, IfOk, IfErr, OnOk, IsErrOf, IsSome, IsTrue};
+ghost use Rattle.std.specs.Prelude.{◌≡◌, ◌≢◌, ◌⊎◌, ◌<◌, ◌^◌, ℕ, Option, Some, None, true, false, IfOk, IfErr, OnOk, IsErrOf, IsSome, IsTrue};
 ghost use Rattle.std.specs.FinMap as map;
-ghost use Rattle.nx_io.specs.Causes.{HasCauseWhere};
+ghost use Rattle.nx_io.specs.Causes.{Rose, HasCauseWhere};
 ghost use Rattle.disk_model.specs.Disk.{Same};
 ghost use Rattle.disk_model.specs.Moments.{During};
-ghost use Rattle.asset_keeper.specs.Told.{Tells};
+ghost use Rattle.asset_keeper.specs.Told.{Tells, Lasts};
 ghost use Rattle.asset_keeper.specs.Ranges.{in_range};
 ghost use Rattle.tree_content.specs.Blobs.{bytes_name};
 ghost use Rattle.repo_model.specs.State.{State};
@@ -21,11 +21,14 @@ ghost use Rattle.repo_core.specs.declared.stop.Stop.TheVariants as stop;
 ghost use Rattle.repo_core.specs.Rows.{rows_in};
 ghost use Rattle.repo_core.specs.Agree.{Agrees};
 ghost use Rattle.repo_config.specs.Hosted.{AllHosted};
-ghost use Rattle.repo_core.specs.Faults.{IsDisk, IsKeeper, DeniedBy, StoppedBy};
-ghost use Rattle.repo_core.specs.Answers.{is_denied};
+ghost use Rattle.repo_core.specs.Faults.{IsDisk, IsKeeper, DeniedBy, StoppedBy, refusal_for, refusal_of_stop};
+ghost use Rattle.repo_core.specs.Answers.{is_denied, is_broke};
+ghost use Rattle.repo_core.specs.Asks.{SetsRow};
 ghost use Rattle.repo_core.specs.Ends.{Ends};
 ghost use Rattle.repo_core.specs.Got.{IsGotFor, GotOpened, GotFile, GotContent};
 ghost use Rattle.repo_core.specs.Looking.{MayGet, NotOpened, IfDenied, got_given};
+ghost use Rattle.repo_core.specs.Why.{WhyNotGiven};
+ghost use Rattle.repo_model.specs.Config.{repo_of};
 
 use crate::denial::{Denial, keeper_fault};
 use crate::given::{Given, Opened, known};
@@ -44,10 +47,13 @@ use std::alloc::Global;
 fn row_to_give<T: Keeper>(table: &mut T, config: &PlainConfig, key: &Key) -> Result<Asset, Denial>
     requires hosted { AllHosted (config_of config.now) }
     ensures same { Tells (T.table table.old) (T.table table.new) (λ s t. t ≡ s) }
+    ensures changes { T.changes table.new ≡ T.changes table.old }
+    ensures lasting { Lasts T.lasts (T.table table.old) (T.table table.new) }
     ensures range { IfOk result (λ asset. IsTrue (in_range asset)) }
     ensures cause { HasCauseWhere (DeniedBy IsKeeper) (T.faults table.old) (T.faults table.new) result }
     ensures keeper_alone { IfErr result (λ why. ¬ DeniedBy IsDisk why) }
-    ensures not_found { IsErrOf result denial.NotFound → T.found table.new ≡ false }
+    ensures why { (look : Look) (looked : Option ℕ) → IfErr result (λ why. WhyNotGiven (config_of config.now) key.now look (T.found table.new) looked (refusal_for why)) }
+    ensures opens { OnOk result (IsSome (repo_of (config_of config.now) key.now.repo) × (T.found table.new ≡ true)) }
     ensures undamaged { (size : ℕ) (found : Option ℕ) → IsErrOf result (denial.Damaged size found) → ⊥ }
     ensures row { IsSome (T.table table.new) → (s : State) (l : Look) (moment : Moment) → s.broken ≡ None → rows_in (T.table table.old) ≡ s.rows → MayGet (config_of config.now) s key.now l moment result }
 {
@@ -78,10 +84,15 @@ fn serve<D: Disk, T: Keeper>(
     ensures file { D.told → IfOk result (λ given. GotFile D.Reader.left (D.tree disk.old) (got_given given)) }
     ensures denied { IfDenied result (NotOpened D.told (D.tree disk.old) asset (D.last_look disk.new)) }
     ensures rows { Tells (T.table table.old) (T.table table.new) (λ s t. OnOk result (map.get s.rows key.now ≡ Some asset → t.rows ≡ map.insert s.rows key.now (downloaded asset at))) }
+    ensures table { Tells (T.table table.old) (T.table table.new) (λ s t. (t ≡ s) ⊎ SetsRow key.now s t) }
     ensures clean_rows { Tells (T.table table.old) (T.table table.new) (λ s t. is_denied result ≡ true → t ≡ s) }
+    ensures changed { is_broke result ≡ true → Rose (T.changes table.old) (T.changes table.new) }
+    ensures unchanged { is_denied result ≡ true → T.changes table.new ≡ T.changes table.old }
+    ensures lasting { Lasts T.lasts (T.table table.old) (T.table table.new) }
     ensures found { T.found table.new ≡ T.found table.old }
     ensures tree { D.told → D.tree disk.new ≡ D.tree disk.old }
     ensures any_moment { D.told → During D.clock D.lists disk.old disk.new (Same (D.lists disk.old (D.clock disk.old))) }
+    ensures shown { D.shown disk.new ≡ D.shown disk.old }
     ensures disk_cause { HasCauseWhere (StoppedBy IsDisk) (D.faults disk.old) (D.faults disk.new) result }
     ensures keeper_cause { HasCauseWhere (StoppedBy IsKeeper) (T.faults table.old) (T.faults table.new) result }
 {
@@ -124,7 +135,12 @@ pub(crate) fn give<D: Disk, T: Keeper>(
     // The files stay.
     ensures tree { D.told → D.tree disk.new ≡ D.tree disk.old }
     ensures any_moment { D.told → During D.clock D.lists disk.old disk.new (Same (D.lists disk.old (D.clock disk.old))) }
+    ensures shown { D.shown disk.new ≡ D.shown disk.old }
+    ensures table { Tells (T.table table.old) (T.table table.new) (λ s t. (t ≡ s) ⊎ SetsRow key.now s t) }
     ensures clean_rows { Tells (T.table table.old) (T.table table.new) (λ s t. is_denied result ≡ true → t ≡ s) }
+    ensures changed { is_broke result ≡ true → Rose (T.changes table.old) (T.changes table.new) }
+    ensures unchanged { is_denied result ≡ true → T.changes table.new ≡ T.changes table.old }
+    ensures lasting { Lasts T.lasts (T.table table.old) (T.table table.new) }
     // A HEAD doesn't call the disk.
     ensures head { look ≡ looks.Head → disk.new ≡ disk.old }
     ensures kind { IfOk result (λ given. IsGotFor look (got_given given)) }
@@ -132,8 +148,7 @@ pub(crate) fn give<D: Disk, T: Keeper>(
     ensures opened { IfOk result (λ given. GotOpened D.Reader.size D.Reader.faults (got_given given)) }
     ensures file { D.told → IfOk result (λ given. GotFile D.Reader.left (D.tree disk.old) (got_given given)) }
     ensures content { D.told → IsSome (T.table table.new) → (own : Own) (s : State) → Agrees (config_of config.now) (D.tree disk.old) (rows_in (T.table table.old)) own s → IfOk result (λ given. GotContent D.Reader.left (got_given given)) }
-    ensures not_found { IsErrOf result (stop.Denied denial.NotFound) → T.found table.new ≡ false }
-    ensures damaged { (size : ℕ) (found : Option ℕ) → IsErrOf result (stop.Denied (denial.Damaged size found)) → (D.last_look disk.new ≡ found) × (found ≢ Some size) }
+    ensures why { IfErr result (λ e. WhyNotGiven (config_of config.now) key.now look (T.found table.new) (D.last_look disk.new) (refusal_of_stop e)) }
     ensures whole { D.told → IsSome (T.table table.new) → (own : Own) (s : State) → Agrees (config_of config.now) (D.tree disk.old) (rows_in (T.table table.old)) own s
         → (size : ℕ) (found : Option ℕ) → IsErrOf result (stop.Denied (denial.Damaged size found)) → ⊥ }
     ensures disk_cause { HasCauseWhere (StoppedBy IsDisk) (D.faults disk.old) (D.faults disk.new) result }

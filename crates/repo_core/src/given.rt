@@ -6,14 +6,12 @@ use nx_base::{Asset, BlobRef, NoMemory};
 use std::alloc::Global;
 
 /// The bytes of a blob on their way out, and which blob it is.
-#[derive(Drop)]
 pub struct Opened<R> {
     pub download: Download<R>,
     pub blob: BlobRef,
 }
 
 /// A content that is given out: its asset, a copy of that for the journal, and its bytes where they are wanted.
-#[derive(Drop)]
 pub struct Given<R> {
     pub asset: Asset,
     pub copy: Asset,

@@ -10,11 +10,12 @@
 //!   after such a fault, the cause by which each later call is refused: then the core is broken until its folder is opened
 //!   again.
 //!
-//! What is promised of each call: it has just one entry, with its caller, arguments and answer, unless the journal is full;
-//! from each state that the core stands for, the entry leads to one that the core then stands for; at every moment of it each
-//! image that a crash may leave has the contents before or after; a disk on which everything is settled is settled again,
-//! unless the core broke; a refusal that doesn't break it leaves files, rows and its own parts; and a fault is answered only
-//! where the count of that device rose.
+//! What is promised of each call is stated once, in two records that each call cites (`Called` in `specs/Called.antt`, `Survives` in
+//! `specs/Survives.antt`): it has just one entry, with its caller, arguments and answer, unless the journal is full; from each state that
+//! the core stands for, the entry leads to one that the core then stands for; at every moment of it each image that a crash may leave has
+//! the contents before or after; a disk on which everything is settled is settled again, unless the core broke; a refusal that doesn't
+//! break it leaves files, rows and its own parts; and a fault is answered only where the count of that device rose. Beside them a call
+//! says only what is its own. What is asked of it is an `Ask` (`specs/Asks.antt`).
 #![tactic(auto)]
 
 mod admitting;

@@ -14,8 +14,7 @@ use soft_delete::MarkErr;
 use std::alloc::Global;
 
 /// A mark that stands ready: a sealed file with the new text, and the names of the blob's files.
-#[derive(Drop)]
-pub struct Mark<S: Drop> {
+pub struct Mark<S> {
     pub file: S,
     pub files: BlobFiles,
 }
@@ -34,6 +33,7 @@ pub(crate) fn stage_mark<D: Disk>(
     ensures stages { D.told → IfOk result (λ mark. Stages D.Writer.content (D.tree disk.old) blob.now reason.now at mark) }
     ensures tree { D.told → Same (D.tree disk.old) (D.tree disk.new) }
     ensures any_moment { D.told → During D.clock D.lists disk.old disk.new (Same (D.lists disk.old (D.clock disk.old))) }
+    ensures shown { D.shown disk.new ≡ D.shown disk.old }
     ensures cause { HasCauseWhere IsFault (D.faults disk.old) (D.faults disk.new) result }
 {
     let Ok(files) = BlobFiles::of(alloc, blob, Layout::Volume) else {

@@ -26,6 +26,7 @@ pub(crate) fn open_measured<D: Disk>(
     ensures denied { IfErr result (NotOpened D.told (D.tree disk.old) asset.now (D.last_look disk.new)) }
     ensures tree { D.told → D.tree disk.new ≡ D.tree disk.old }
     ensures any_moment { D.told → During D.clock D.lists disk.old disk.new (Same (D.lists disk.old (D.clock disk.old))) }
+    ensures shown { D.shown disk.new ≡ D.shown disk.old }
     ensures cause { HasCauseWhere (DeniedBy IsDisk) (D.faults disk.old) (D.faults disk.new) result }
     ensures disk_alone { IfErr result (λ why. ¬ DeniedBy IsKeeper why) }
 {

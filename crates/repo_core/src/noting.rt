@@ -1,8 +1,8 @@
-ghost use Rattle.std.specs.Prelude.{◌≡◌, ◌<◌, ◌^◌, Some, IsTrue, IfOk, IfErr, IfSome, OnOk};
-ghost use Rattle.nx_io.specs.Causes.{HasCauseWhere};
+ghost use Rattle.std.specs.Prelude.{◌≡◌, ◌⊎◌, ◌<◌, ◌^◌, Some, IsTrue, IfOk, IfErr, IfSome, OnOk, OnErr};
+ghost use Rattle.nx_io.specs.Causes.{Rose, HasCauseWhere};
 ghost use Rattle.nx_base.specs.Given.{given};
 ghost use Rattle.asset_keeper.specs.Table.{changed};
-ghost use Rattle.asset_keeper.specs.Told.{Tells};
+ghost use Rattle.asset_keeper.specs.Told.{Tells, Lasts};
 ghost use Rattle.asset_keeper.specs.Ranges.{in_range, change_in_range};
 ghost use Rattle.asset_keeper.specs.declared.change.Change.TheVariants as change;
 ghost use Rattle.repo_model.specs.Serving.{downloaded};
@@ -69,7 +69,10 @@ pub(crate) fn note_download(
 pub(crate) fn save<T: Keeper>(table: &mut T, change: &Option<Change>) -> Result<(), Fault>
     requires { IfSome change.now (λ c. IsTrue (change_in_range c)) }
     ensures rows { Tells (T.table table.old) (T.table table.new) (λ s t. OnOk result (t ≡ given change.now s (changed s))) }
+    ensures table { Tells (T.table table.old) (T.table table.new) (λ s t. (t ≡ s) ⊎ (t ≡ given change.now s (changed s))) }
     ensures found { T.found table.new ≡ T.found table.old }
+    ensures changed { OnErr result (Rose (T.changes table.old) (T.changes table.new)) }
+    ensures lasting { Lasts T.lasts (T.table table.old) (T.table table.new) }
     ensures cause { HasCauseWhere IsKeeper (T.faults table.old) (T.faults table.new) result }
     ensures keeper_alone { IfErr result (λ why. ¬ IsDisk why) }
 {

@@ -3,7 +3,7 @@ use crate::own::Own;
 use asset_keeper::Keeper;
 use disk_model::Disk;
 use repo_model::plain::PlainConfig;
-use repo_model::{Cause, Journal};
+use repo_model::{Cause, Entry, Journal, Refusal};
 use std::alloc::Global;
 use std::marker::Model;
 
@@ -42,6 +42,10 @@ impl<D: Disk, T: Keeper> Model for Core<D, T> {
 
 impl<D: Disk, T: Keeper> Core<D, T> {
     ghost use Rattle.std.specs.Prelude.{◌≡◌};
+    ghost use Rattle.repo_core.specs.Answers.{IsFull, HasRoom, with_entry};
+    ghost use Rattle.repo_core.specs.Asks.{TookBack};
+    ghost use Rattle.repo_core.specs.Devices.{devices};
+    ghost use Rattle.repo_core.specs.Barred.{BarredBy};
 
     /// What broke the repository, if it is broken.
     pub fn broken(&self) -> Option<Cause>
@@ -55,5 +59,45 @@ impl<D: Disk, T: Keeper> Core<D, T> {
         ensures { result.now ≡ self.now.journal }
     {
         &self.journal
+    }
+
+    /// Why no call is made: the journal is full, or the repository is broken.
+    pub(crate) fn barred(&self) -> Option<Refusal>
+        ensures { BarredBy self.now result }
+    {
+        if self.journal.is_full() {
+            return Some(Refusal::JournalFull);
+        }
+        match self.broken {
+            Some(cause) => Some(Refusal::Broken { cause }),
+            None => None,
+        }
+    }
+
+    /// The entry of a call that wasn't made joins the journal, unless that is full.
+    pub(crate) fn turn_away(&mut self, entry: Entry)
+        ensures full { IsFull self.old.journal → self.new ≡ self.old }
+        ensures entry { HasRoom self.old.journal → self.new ≡ record self.old { journal = with_entry self.old.journal entry } }
+    {
+        if !self.journal.is_full() {
+            self.journal.push(entry);
+        }
+    }
+
+    /// The entry of a call that was made joins the journal, and this is what the repository is broken by behind it.
+    pub(crate) fn note(&mut self, entry: Entry, cause: Option<Cause>)
+        requires { HasRoom self.old.journal }
+        ensures { self.new ≡ record self.old { journal = with_entry self.old.journal entry; broken = cause } }
+    {
+        self.journal.push(entry);
+        self.broken = cause;
+    }
+
+    /// A sealed file is given up to the disk.
+    pub(crate) fn drop_file(&mut self, file: D::Sealed)
+        ensures rest { self.new ≡ record self.old { disk = self.new.disk } }
+        ensures back { TookBack (devices D.Disk T.Keeper) self.old.disk self.new.disk }
+    {
+        self.disk.discard(file);
     }
 }

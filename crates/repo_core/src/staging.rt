@@ -7,7 +7,9 @@ ghost use Rattle.blob_paths.specs.Places.{place_of};
 ghost use Rattle.asset_keeper.specs.Ranges.{change_in_range};
 ghost use Rattle.tree_content.specs.Blobs.{IsRef, props_name};
 ghost use Rattle.repo_core.specs.Faults.{IsDisk, DeniedBy};
-ghost use Rattle.repo_core.specs.Puts.{IsNewBlob, StagesOld, NotPut, with_old};
+ghost use Rattle.blob_properties.specs.Readable.{Readable};
+ghost use Rattle.repo_core.specs.Puts.{IsNewBlob, StagesOld, NotPut, with_old, props_of};
+ghost use Rattle.repo_core.specs.Asks.{Sets};
 ghost use Rattle.repo_core.specs.declared.denial.Denial.TheVariants as denial;
 
 use crate::content::{new_asset, new_text};
@@ -89,6 +91,7 @@ pub(crate) fn see_free<D: Disk>(
     ensures taken { (id : List ℕ) → result ≡ Err (denial.IdTaken id) → IsSome (D.last_look disk.new) }
     ensures tree { D.told → D.tree disk.new ≡ D.tree disk.old }
     ensures any_moment { D.told → During D.clock D.lists disk.old disk.new (Same (D.lists disk.old (D.clock disk.old))) }
+    ensures shown { D.shown disk.new ≡ D.shown disk.old }
     ensures cause { HasCauseWhere (DeniedBy IsDisk) (D.faults disk.old) (D.faults disk.new) result }
 {
     match disk.read_small(files.properties()) {
@@ -109,6 +112,7 @@ pub(crate) fn stage_old<D: Disk>(
     ensures stages { D.told → IfOk result (StagesOld D.Writer.content (D.tree disk.old) at (option_copied old.entry)) }
     ensures tree { D.told → Same (D.tree disk.old) (D.tree disk.new) }
     ensures any_moment { D.told → During D.clock D.lists disk.old disk.new (Same (D.lists disk.old (D.clock disk.old))) }
+    ensures shown { D.shown disk.new ≡ D.shown disk.old }
     ensures cause { HasCauseWhere IsFault (D.faults disk.old) (D.faults disk.new) result }
 {
     match old {
@@ -118,8 +122,7 @@ pub(crate) fn stage_old<D: Disk>(
 }
 
 /// A content that stands ready to become that of its key, and the mark of the blob that the key had.
-#[derive(Drop)]
-pub(crate) struct Staged<S: Drop> {
+pub(crate) struct Staged<S> {
     pub(crate) new: NewBlob,
     pub(crate) mark: Option<Mark<S>>,
 }
@@ -139,6 +142,7 @@ fn trash_old<D: Disk>(
     ensures clean { OnErr result (own.new ≡ own.old) }
     ensures tree { D.told → Same (D.tree disk.old) (D.tree disk.new) }
     ensures any_moment { D.told → During D.clock D.lists disk.old disk.new (Same (D.lists disk.old (D.clock disk.old))) }
+    ensures shown { D.shown disk.new ≡ D.shown disk.old }
     ensures cause { D.faults disk.new ≡ D.faults disk.old }
 {
     let Some(mark) = mark else {
@@ -148,7 +152,8 @@ fn trash_old<D: Disk>(
         return Ok(Some(mark));
     };
     if own.discard(alloc, &old.blob, key, at).is_err() {
-        disk.discard(mark.file);
+        let Mark { file, files: _ } = mark;
+        disk.discard(file);
         return Err(NoMemory);
     }
     Ok(Some(mark))
@@ -170,6 +175,8 @@ pub(crate) fn stage_put<D: Disk>(
     requires time { at < 2 ^ 48 }
     ensures named { IsRef blob.now }
     ensures new { IfOk result (λ staged. IsNewBlob upload.now blob.now staged.new) }
+    ensures sets { IfOk result (λ staged. Sets upload.now.key staged.new.change) }
+    ensures says { IfOk result (λ staged. Readable staged.new.text.items (props_of upload.now staged.new.asset.blob.stamp)) }
     ensures range { IfOk result (λ staged. IsTrue (change_in_range staged.new.change)) }
     ensures copy { IfOk result (λ staged. staged.new.copy ≡ staged.new.asset) }
     ensures free { D.told → OnOk result (D.tree disk.old (props_name blob.now) ≡ None) }
@@ -179,6 +186,7 @@ pub(crate) fn stage_put<D: Disk>(
     ensures clean { OnErr result (own.new ≡ own.old) }
     ensures tree { D.told → Same (D.tree disk.old) (D.tree disk.new) }
     ensures any_moment { D.told → During D.clock D.lists disk.old disk.new (Same (D.lists disk.old (D.clock disk.old))) }
+    ensures shown { D.shown disk.new ≡ D.shown disk.old }
     ensures cause { HasCauseWhere (DeniedBy IsDisk) (D.faults disk.old) (D.faults disk.new) result }
     ensures taken { (id : List ℕ) → result ≡ Err (denial.IdTaken id) → IsSome (D.last_look disk.new) }
 {

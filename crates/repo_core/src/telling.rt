@@ -12,8 +12,7 @@ use nx_base::{Key, Moment};
 use repo_model::{Call, Entry, GotOf, Look, Refusal, RemoteSaid, Reply};
 
 /// What a look answers its caller, and what the journal says of it.
-#[derive(Drop)]
-pub(crate) struct Told<R: Drop> {
+pub(crate) struct Told<R> {
     pub(crate) reply: Reply,
     pub(crate) answer: Result<GotOf<Download<R>>, Refusal>,
 }
@@ -42,7 +41,7 @@ fn again(why: &Refusal) -> Refusal
 }
 
 /// Tells what is given. Whoever gets the bytes holds their blob, by the entry of that number.
-fn tell_given<R: Drop>(
+fn tell_given<R>(
     holds: &mut Vec<Option<Hold>>,
     caller: u32,
     number: u64,
@@ -78,7 +77,7 @@ fn tell_given<R: Drop>(
 }
 
 /// Tells what a look came to.
-pub(crate) fn tell<R: Drop>(
+pub(crate) fn tell<R>(
     holds: &mut Vec<Option<Hold>>,
     caller: u32,
     number: u64,

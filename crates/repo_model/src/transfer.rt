@@ -2,7 +2,7 @@ use nx_base::{Asset, Key};
 
 /// What a look at a key gave: its content, what is known of it, or that its remote has to be asked.
 #[derive(Drop)]
-pub enum GotOf<L: Drop> {
+pub enum GotOf<L> {
     Hit { asset: Asset, download: L },
     Seen { asset: Asset },
     NeedFetch { key: Key },

@@ -17,7 +17,7 @@ use Rattle.session_history.specs.Asking.{begin_of}
 use Rattle.repo_core.specs.Begun.{begun_in}
 use Rattle.repo_core.specs.Puts.{MayGo}
 use Rattle.repo_core.specs.View.{CoreView}
-use Rattle.repo_session.specs.Devices.{Devices}
+use Rattle.repo_core.specs.Devices.{Devices}
 use Rattle.repo_session.specs.Called.{Called}
 use Rattle.repo_session.specs.Answering.{IsBegun}
 

@@ -9,7 +9,7 @@ use Rattle.http_front.specs.Turns.{Turn, entries_of, requests_of}
 use Rattle.session_driver.specs.Replying.{with_end}
 use Rattle.repo_core.specs.View.{CoreView}
 use Rattle.repo_session.specs.Answering.{SessionView, Answered}
-use Rattle.repo_session.specs.Devices.{Devices}
+use Rattle.repo_core.specs.Devices.{Devices}
 use Rattle.repo_session.specs.Drawing.{HasDrawn}
 use Rattle.repo_session.specs.Resting.{Rests}
 use Rattle.repo_session.specs.Turned.{DownloadFails, keeper_faults_in}

@@ -1,5 +1,5 @@
 -- What a look of the core gives out is held.
-use Rattle.std.proofs.Common.{◌≡◌, ◌≢◌, inl, inr, ℕ, List, [], ◌∷◌, length, IfOk, Option, Some, None, Result, Ok, Err, refl, sym, ◌∙◌, subst, arith}
+use Rattle.std.proofs.Common.{◌≡◌, ◌≢◌, inl, inr, ℕ, List, [], ◌∷◌, length, IfOk, IsSome, Option, Some, None, Result, Ok, Err, refl, sym, ◌∙◌, subst, arith}
 use Rattle.std.proofs.lemmas.Bool.{cases_lt}
 use Rattle.nx_base.specs.declared.key.Key.{Key}
 use Rattle.nx_base.specs.declared.asset.Asset.{Asset}
@@ -21,15 +21,17 @@ use Rattle.repo_model.specs.History.{Follows}
 use Rattle.repo_model.specs.Plain.{config_of}
 use Rattle.http_front.specs.Contents.{Contents}
 use Rattle.repo_core.specs.View.{CoreView}
+use Rattle.repo_core.specs.Asks.{looks_at, KeepsAll, SetsRow, TouchesNone}
+use Rattle.repo_core.specs.Called as core
 use Rattle.repo_core.specs.Answers.{IsFull, HasRoom, entry_of}
 use Rattle.repo_core.specs.Standing.{Moves}
 use Rattle.repo_core.specs.Looking.{found_in}
 use Rattle.repo_core.specs.Got.{GotOpened, GotFile, GotContent}
-use Rattle.repo_session.specs.Devices.{Devices}
+use Rattle.repo_core.specs.Devices.{Devices}
 use Rattle.repo_session.specs.Standing.{IsHeld, Stands}
 use Rattle.repo_session.specs.Holding.{GivesHeld}
 use Rattle.repo_session.proofs.Leading.{leads_of}
-use Rattle.repo_session.proofs.Calling.{IsNoRefusal}
+use Rattle.repo_session.proofs.CoreCalls.{IsNoRefusal, moves_of}
 
 -- the reply of what was given
 pub found_refuses : {L : Type 0} (got : GotOf L) → IsNoRefusal (found_in got)
@@ -75,7 +77,7 @@ module _ {D T R : Type 0} (devices : Devices D T) (left : R → List ℕ) (size 
       sound room None is = is
       sound room (Some cause) is = absurd (ok_or_err (Ok gives) gives (refusal.Broken cause) refl (broken cause room is))
 
-  pub gives_held : (result : Result (GotOf (Download R)) Refusal) → FullIs result → BrokenIs result → Leads result → IfOk result (GotOpened size faults)
+  gives_held : (result : Result (GotOf (Download R)) Refusal) → FullIs result → BrokenIs result → Leads result → IfOk result (GotOpened size faults)
       → IfOk result (GotFile left (devices.tree old.disk)) → IfOk result (GotContent left) → IfOk result (GivesHeld left contents)
   gives_held (Ok (got.Hit asset download)) full broken moves opened file content =
       let held = its_content (got.Hit asset download) asset refl full broken moves in
@@ -90,3 +92,10 @@ module _ {D T R : Type 0} (devices : Devices D T) (left : R → List ℕ) (size 
   gives_held (Ok (got.Seen asset)) full broken moves opened file content = (its_content (got.Seen asset) asset refl full broken moves).there
   gives_held (Ok (got.NeedFetch key)) full broken moves opened file content = tt
   gives_held (Err why) full broken moves opened file content = tt
+
+  -- what a look of the core gave is held
+  pub look_gives : (result : Result (GotOf (Download R)) Refusal) → core.Called devices (looks_at 0 key l moment) old new result → devices.told → IsSome (devices.table new.table) → IfOk result (GotOpened size faults)
+      → IfOk result (GotFile left (devices.tree old.disk)) → IfOk result (GotContent left) → IfOk result (GivesHeld left contents)
+  look_gives result done told some opened file content =
+      gives_held result (λ full. (done.full full).0.answer) (λ cause room is. (done.broken cause room is).answer)
+      (λ room. moves_of devices old new (call.Get key l moment remote.NotAsked) found_in TouchesNone (SetsRow key) KeepsAll result done told some room s stands.tracks) opened file content

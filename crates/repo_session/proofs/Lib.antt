@@ -11,7 +11,8 @@ pub mod Puttings
 pub mod PutsSaid
 pub mod Held
 pub mod Leading
-pub mod Calling
+pub mod Standings
+pub mod CoreCalls
 pub mod Gives
 pub mod Lookings
 pub mod TurnsChained

@@ -43,7 +43,7 @@ use Rattle.repo_core.specs.Got.{IsGotFor}
 use Rattle.repo_core.specs.Looking.{found_in, HoldsAfter}
 use Rattle.repo_core.specs.View.{CoreView}
 use Rattle.repo_session.specs.declared.draws.Draws.{Draws}
-use Rattle.repo_session.specs.Devices.{Devices}
+use Rattle.repo_core.specs.Devices.{Devices}
 use Rattle.repo_session.specs.Drawing.{Drew}
 use Rattle.repo_session.specs.Standing.{Stands}
 use Rattle.repo_session.specs.Called.{Called}
@@ -124,7 +124,7 @@ free_after number holds holds' (Ok (got.NeedFetch key)) free is = subst (λ (l :
 free_after number holds holds' (Err why) free is = subst (λ (l : List (Option Hold)). slice_get l 0 ≡ Some None) (sym is) free
 
 -- A call of a core to whose disk something was given back before.
-called_behind : {D T : Type 0} (devices : Devices D T) (old mid new : CoreView D T) (c : Call) (store : List ℕ) (said : Reply) (after : Contents → Contents)
+pub called_behind : {D T : Type 0} (devices : Devices D T) (old mid new : CoreView D T) (c : Call) (store : List ℕ) (said : Reply) (after : Contents → Contents)
     → Rests devices old mid → Called devices mid new c store said after → Called devices old new c store said after
 called_behind {D} {T} devices old mid new c store said after rests called = record {
   entries = called.entries;

@@ -14,7 +14,7 @@ use Rattle.http_front.specs.Turns.{Turn, contents_after}
 use Rattle.session_history.specs.Phases.{put_reply}
 use Rattle.session_driver.specs.Replying.{told}
 use Rattle.repo_core.specs.View.{CoreView}
-use Rattle.repo_session.specs.Devices.{Devices}
+use Rattle.repo_core.specs.Devices.{Devices}
 use Rattle.repo_session.specs.Uploading.{before_content}
 use Rattle.repo_session.specs.Answering.{TurnedTo}
 use Rattle.repo_session.specs.Putting.{IsPut, IsPutReply}

@@ -33,7 +33,7 @@ use Rattle.session_history.specs.Asking.{begin_of}
 use Rattle.repo_core.specs.Puts.{MayGo, AreBytes, upload_of}
 use Rattle.repo_core.specs.Puts.{put_call as core_put}
 use Rattle.repo_core.specs.View.{CoreView}
-use Rattle.repo_session.specs.Devices.{Devices}
+use Rattle.repo_core.specs.Devices.{Devices}
 use Rattle.repo_session.specs.Standing.{Stands}
 use Rattle.repo_session.specs.Leads.{IsEntryOf, LeadsBy}
 use Rattle.repo_session.specs.Called.{Since, Called}

@@ -19,7 +19,7 @@ use Rattle.session_driver.specs.Replying.{AnswersEach, PutsAs}
 use Rattle.repo_core.specs.View.{CoreView}
 use Rattle.repo_session.specs.declared.draws.Draws.{Draws}
 use Rattle.repo_session.specs.declared.open_upload.OpenUpload.{OpenUpload}
-use Rattle.repo_session.specs.Devices.{Devices}
+use Rattle.repo_core.specs.Devices.{Devices}
 use Rattle.repo_session.specs.Drawing.{Drew}
 use Rattle.repo_session.specs.Answering.{SessionView, Answered, IsBegun, TurnedTo, UploadWaits}
 

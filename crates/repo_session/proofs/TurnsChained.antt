@@ -10,7 +10,7 @@ use Rattle.repo_model.specs.State.{State}
 use Rattle.http_front.specs.Contents.{Contents}
 use Rattle.http_front.specs.Turns.{Setting, Turn, Makes, AreTurns, contents_after, answer_of, entries_of}
 use Rattle.repo_core.specs.View.{CoreView}
-use Rattle.repo_session.specs.Devices.{Devices}
+use Rattle.repo_core.specs.Devices.{Devices}
 use Rattle.repo_session.specs.Standing.{Stands}
 use Rattle.repo_session.specs.Called.{Since}
 use Rattle.repo_session.specs.Drawing.{draw_of}

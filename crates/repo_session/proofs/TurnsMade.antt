@@ -17,7 +17,7 @@ use Rattle.http_front.specs.Entries.{begins}
 use Rattle.http_front.specs.Served.{Serves}
 use Rattle.http_front.specs.Turns.{content_of}
 use Rattle.repo_core.specs.View.{CoreView}
-use Rattle.repo_session.specs.Devices.{Devices}
+use Rattle.repo_core.specs.Devices.{Devices}
 use Rattle.repo_session.specs.Standing.{Stands}
 use Rattle.repo_session.specs.Leads.{IsEntryOf}
 use Rattle.repo_session.specs.Called.{Since, HasDeviceCause, Called}
@@ -49,6 +49,14 @@ rose_by_both first second before mid now rose more = grind (arith, rose, more)
 
 pub rests_same : {D T : Type 0} (devices : Devices D T) (core : CoreView D T) → Rests devices core core
 rests_same devices core = record { same = refl; later = omega arith; stands = λ told state contents stands. stands }
+
+-- one behind another
+pub rests_both : {D T : Type 0} (devices : Devices D T) (old mid new : CoreView D T) → Rests devices old mid → Rests devices mid new → Rests devices old new
+rests_both {D} {T} devices old mid new first second = record {
+  same = second.same ∙ ap (λ (c : CoreView D T). record c { disk = new.disk; holds = new.holds }) first.same;
+  later = grind (arith, first.later, second.later);
+  stands = λ told state contents stands. second.stands told state contents (first.stands told state contents stands);
+}
 
 pub since_rests : {D T : Type 0} (devices : Devices D T) (old mid new : CoreView D T) (entries : List Entry) → Since devices old mid entries → Rests devices mid new → Since devices old new entries
 since_rests {D} {T} devices old mid new entries since rests = record {

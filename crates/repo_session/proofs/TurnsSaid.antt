@@ -26,7 +26,7 @@ use Rattle.session_history.specs.Asking.{ask_of}
 use Rattle.repo_core.specs.Answers.{reply_of}
 use Rattle.repo_core.specs.View.{CoreView}
 use Rattle.repo_session.specs.Answering.{TurnedTo}
-use Rattle.repo_session.specs.Devices.{Devices}
+use Rattle.repo_core.specs.Devices.{Devices}
 use Rattle.repo_session.specs.Standing.{Stands}
 use Rattle.repo_session.specs.Called.{Called}
 use Rattle.repo_session.specs.Resting.{Rests}

@@ -28,7 +28,7 @@ use Rattle.session_history.specs.Asking.{begin_of}
 use Rattle.session_history.specs.Saying.{why_upload}
 use Rattle.session_driver.specs.Replying.{AnswersEach, told}
 use Rattle.repo_core.specs.View.{CoreView}
-use Rattle.repo_session.specs.Devices.{Devices}
+use Rattle.repo_core.specs.Devices.{Devices}
 use Rattle.repo_session.specs.Standing.{Stands}
 use Rattle.repo_session.specs.Leads.{IsEntryOf, LeadsBy}
 use Rattle.repo_session.specs.Called.{Since}

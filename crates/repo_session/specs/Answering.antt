@@ -20,7 +20,7 @@ use Rattle.repo_core.specs.View.{CoreView}
 use Rattle.repo_core.specs.Puts.{MayGo}
 use Rattle.repo_session.specs.declared.draws.Draws.{Draws}
 use Rattle.repo_session.specs.declared.open_upload.OpenUpload.{OpenUpload}
-use Rattle.repo_session.specs.Devices.{Devices}
+use Rattle.repo_core.specs.Devices.{Devices}
 use Rattle.repo_session.specs.Drawing.{Drew}
 use Rattle.repo_session.specs.Called.{Called}
 use Rattle.repo_session.specs.Turned.{Turned}

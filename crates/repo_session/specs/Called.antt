@@ -12,7 +12,7 @@ use Rattle.repo_model.specs.State.{State}
 use Rattle.repo_model.specs.Plain.{config_of}
 use Rattle.http_front.specs.Contents.{Contents}
 use Rattle.repo_core.specs.View.{CoreView}
-use Rattle.repo_session.specs.Devices.{Devices}
+use Rattle.repo_core.specs.Devices.{Devices}
 use Rattle.repo_session.specs.Standing.{Stands}
 use Rattle.repo_session.specs.Leads.{IsEntryOf, LeadsBy}
 

@@ -18,7 +18,7 @@ use Rattle.http_front.specs.Contents.{Contents}
 use Rattle.http_front.specs.Served.{Has}
 use Rattle.session_history.specs.declared.ask.Ask.TheVariants as asks
 use Rattle.session_history.specs.Asking.{ask_of}
-use Rattle.repo_session.specs.Devices.{Devices}
+use Rattle.repo_core.specs.Devices.{Devices}
 use Rattle.repo_session.specs.Standing.{Stands}
 use Rattle.repo_session.specs.Called.{Called}
 use Rattle.repo_session.specs.Holding.{GivesContent}

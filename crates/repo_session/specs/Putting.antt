@@ -10,7 +10,7 @@ use Rattle.http_heads.specs.declared.head.Head.{Head}
 use Rattle.http_requests.specs.Requests.{whole}
 use Rattle.http_front.specs.Answers.{has_begun, last_reply}
 use Rattle.repo_core.specs.View.{CoreView}
-use Rattle.repo_session.specs.Devices.{Devices}
+use Rattle.repo_core.specs.Devices.{Devices}
 use Rattle.repo_session.specs.Turned.{TurnMade}
 
 -- the reply of a put that was answered so

@@ -7,7 +7,7 @@ use Rattle.http_requests.specs.Requests.{Item}
 use Rattle.http_front.specs.Contents.{Contents}
 use Rattle.http_front.specs.Turns.{Turn, AreTurns, contents_after, answer_of, requests_of, entries_of, turns_said}
 use Rattle.repo_core.specs.View.{CoreView}
-use Rattle.repo_session.specs.Devices.{Devices}
+use Rattle.repo_core.specs.Devices.{Devices}
 use Rattle.repo_session.specs.Standing.{Stands}
 use Rattle.repo_session.specs.Called.{Since}
 use Rattle.repo_session.specs.Drawing.{draw_of}

@@ -12,7 +12,7 @@ use Rattle.http_front.specs.Contents.{Contents, bytes_of}
 use Rattle.http_front.specs.Served.{Has}
 use Rattle.repo_core.specs.View.{CoreView}
 use Rattle.repo_core.specs.Standing.{Tracks}
-use Rattle.repo_session.specs.Devices.{Devices}
+use Rattle.repo_core.specs.Devices.{Devices}
 
 -- the content of the blob that a row names is there, and is that of the blob's file
 pub record IsHeld (tree : Tree) (contents : Contents) (blob : BlobRef) : Type 0 where

@@ -18,7 +18,7 @@ use Rattle.http_front.specs.Contents.{Contents}
 use Rattle.http_front.specs.Served.{Serves}
 use Rattle.http_front.specs.Turns.{Setting, Turn, Makes, contents_after, answer_of}
 use Rattle.repo_core.specs.View.{CoreView}
-use Rattle.repo_session.specs.Devices.{Devices}
+use Rattle.repo_core.specs.Devices.{Devices}
 use Rattle.repo_session.specs.Standing.{Stands}
 use Rattle.repo_session.specs.Called.{Since}
 

@@ -1,17 +1,15 @@
 //! What a session asks of a core.
 ghost use Rattle.http_front.specs.Answers.{Answer};
-ghost use Rattle.repo_session.specs.Devices.{devices};
+ghost use Rattle.repo_core.specs.Devices.{devices};
 ghost use Rattle.repo_session.specs.Turned.{DownloadFails};
 ghost use Rattle.repo_session.specs.Answering.{Answered, UploadWaits, IsFree, session_view};
 ghost use Rattle.repo_session.specs.Looked.{IsLooked};
 
-use crate::asking;
-use crate::asking::{begin_upload, end_upload, remove};
 use crate::downloads::{give, let_go};
 use crate::draws::Draws;
 use crate::looks::looked;
-use crate::open_upload::OpenUpload;
-use crate::puts::{finish, stop_upload};
+use crate::open_upload::{OpenUpload, keep};
+use crate::puts::{finish, stop_open, stop_upload};
 use crate::writing::write;
 use asset_keeper::Keeper;
 use blob_files::Download;
@@ -25,8 +23,7 @@ use session_driver::Repository;
 use std::alloc::Global;
 
 /// A core that makes the calls of one session, with the moments that it draws: one for each request.
-#[derive(Drop)]
-pub struct Answering<D: Disk, T: Keeper, W: Drop, R: Drop> {
+pub struct Answering<D: Disk, T: Keeper, W, R> {
     pub alloc: Global,
     pub core: Core<D, T>,
     pub draws: Draws,
@@ -38,13 +35,13 @@ pub struct Answering<D: Disk, T: Keeper, W: Drop, R: Drop> {
 }
 
 impl<D: Disk, T: Keeper> Repository for Answering<D, T, D::Writer, D::Reader> {
-    ghost Answers = { λ x y item answer. Answered (devices D.told D.tree T.table D.faults T.faults) (session_view x.core x.draws x.upload x.found) (session_view y.core y.draws y.upload y.found) item answer };
+    ghost Answers = { λ x y item answer. Answered (devices D.Disk T.Keeper) (session_view x.core x.draws x.upload x.found) (session_view y.core y.draws y.upload y.found) item answer };
 
-    ghost Uploads = { λ x y head content. UploadWaits (devices D.told D.tree T.table D.faults T.faults) D.Writer.told D.Writer.written (session_view x.core x.draws x.upload x.found) (session_view y.core y.draws y.upload y.found) head content };
+    ghost Uploads = { λ x y head content. UploadWaits (devices D.Disk T.Keeper) D.Writer.told D.Writer.written (session_view x.core x.draws x.upload x.found) (session_view y.core y.draws y.upload y.found) head content };
 
-    ghost Looked = { λ x y head said. IsLooked (devices D.told D.tree T.table D.faults T.faults) D.Reader.left (session_view x.core x.draws x.upload x.found) (session_view y.core y.draws y.upload y.found) head said };
+    ghost Looked = { λ x y head said. IsLooked (devices D.Disk T.Keeper) D.Reader.left (session_view x.core x.draws x.upload x.found) (session_view y.core y.draws y.upload y.found) head said };
 
-    ghost Fails = { λ x y. DownloadFails (devices D.told D.tree T.table D.faults T.faults) x.core y.core };
+    ghost Fails = { λ x y. DownloadFails (devices D.Disk T.Keeper) x.core y.core };
 
     fn refused(&mut self) {
         self.draws.draw();
@@ -62,9 +59,10 @@ impl<D: Disk, T: Keeper> Repository for Answering<D, T, D::Writer, D::Reader> {
             content_type: begin.content_type,
             kind: Kind::Put,
         };
-        match begin_upload(&mut self.core, begin) {
+        stop_open(&mut self.core, self.upload.take());
+        match self.core.begin(0, begin) {
             Ok(upload) => {
-                self.upload = Some(OpenUpload { upload });
+                keep(&mut self.upload, Some(OpenUpload { upload }));
                 Ok(Reply::Begun { store })
             }
             Err(refusal) => {
@@ -78,10 +76,11 @@ impl<D: Disk, T: Keeper> Repository for Answering<D, T, D::Writer, D::Reader> {
         let Some(open) = self.upload.take() else {
             return Err(UploadErr::NoMemory);
         };
-        let mut upload = open.upload;
+        let OpenUpload { upload } = open;
+        let mut upload = upload;
         match upload.write(part) {
             Ok(()) => {
-                self.upload = Some(OpenUpload { upload });
+                keep(&mut self.upload, Some(OpenUpload { upload }));
                 Ok(())
             }
             Err(why) => {
@@ -102,23 +101,25 @@ impl<D: Disk, T: Keeper> Repository for Answering<D, T, D::Writer, D::Reader> {
     fn abort(&mut self) {
         self.draws.draw();
         if let Some(open) = self.upload.take() {
-            end_upload(&mut self.core, open.upload);
+            let OpenUpload { upload } = open;
+            self.core.end_upload(0, upload);
         }
     }
 
     fn cut(&mut self) {
         self.draws.draw();
         if let Some(open) = self.upload.take() {
-            end_upload(&mut self.core, open.upload);
+            let OpenUpload { upload } = open;
+            self.core.end_upload(0, upload);
         }
     }
 
     fn look(&mut self, key: Key, look: Look) -> Reply {
         let_go(&mut self.core, self.found.take());
         let moment = self.draws.draw();
-        let got = asking::look(&mut self.core, key, look, moment);
+        let got = self.core.get(0, key, look, moment);
         let (said, found) = looked(got);
-        self.found = found;
+        keep(&mut self.found, found);
         said
     }
 
@@ -131,7 +132,7 @@ impl<D: Disk, T: Keeper> Repository for Answering<D, T, D::Writer, D::Reader> {
 
     fn delete(&mut self, key: Key) -> Reply {
         let moment = self.draws.draw();
-        match remove(&mut self.core, key, moment) {
+        match self.core.delete(0, key, moment) {
             Ok(()) => Reply::Gone,
             Err(refusal) => Reply::Refused(refusal),
         }

@@ -4,12 +4,11 @@ ghost use Rattle.nx_io.specs.Causes.{HasCauseWhere};
 ghost use Rattle.blob_files.specs.Downloads.{IsWhole, IsFault};
 ghost use Rattle.http_front.specs.Replying.{HasSinkCause};
 ghost use Rattle.repo_session.specs.Answering.{IsFree};
-ghost use Rattle.repo_session.specs.Devices.{devices};
+ghost use Rattle.repo_core.specs.Devices.{devices};
 ghost use Rattle.repo_session.specs.Resting.{Rests};
 ghost use Rattle.repo_session.specs.Sending.{SentSome};
 ghost use Rattle.repo_session.specs.Giving.{HasRead, IsGivenBehind, HasFailed, HasGivenCause};
 
-use crate::asking::end_download;
 use crate::writing::write;
 use asset_keeper::Keeper;
 use blob_files::Download;
@@ -102,22 +101,22 @@ pub(crate) fn give<D: Disk, T: Keeper, K: Sink>(
     ensures sent { SentSome (IsGivenBehind D.Reader.told D.Reader.left front.now download) (K.taken output.old) (K.taken output.new) result }
     ensures cause { HasSinkCause (K.faults output.old) (K.faults output.new) result }
     ensures failed { HasGivenCause D.Reader.told D.Reader.left (D.faults core.old.disk) (D.faults core.new.disk) download result }
-    ensures rests { Rests (devices D.told D.tree T.table D.faults T.faults) core.old core.new }
+    ensures rests { Rests (devices D.Disk T.Keeper) core.old core.new }
     ensures holds { core.new.holds ≡ slice_set core.old.holds 0 None }
 {
     let mut download = download;
     let sent = send_content(front, &mut download, output);
-    end_download(core, download);
+    core.end_get(0, download);
     sent
 }
 
 /// Ends a download that is open, if one is.
 pub(crate) fn let_go<D: Disk, T: Keeper>(core: &mut Core<D, T>, found: Option<Download<D::Reader>>)
     requires { IsFree found core.old.holds }
-    ensures rests { Rests (devices D.told D.tree T.table D.faults T.faults) core.old core.new }
+    ensures rests { Rests (devices D.Disk T.Keeper) core.old core.new }
     ensures free { slice_get core.new.holds 0 ≡ Some None }
 {
     if let Some(download) = found {
-        end_download(core, download);
+        core.end_get(0, download);
     }
 }

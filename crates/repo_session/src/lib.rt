@@ -4,10 +4,10 @@
 //! that its calls made and with what stopped it beside them (`http_front`). A *moment* is drawn for each request, and the last one
 //! repeats ([`Draws`]). What an upload keeps while its content comes is an [`OpenUpload`].
 //!
-//! - `asking` makes the calls of the core: each has one entry, and leads from what the devices stand for to what they then stand for;
 //! - `puts` ends an upload: by its put, or by what failed;
 //! - `looks` says what a look replies and opens, and `downloads` gives out what is open, behind the head of its response;
-//! - [`Answering`] hands these to `session_driver`, which says the rest;
+//! - [`Answering`] makes the calls of the core, as its caller 0, and hands their answers to `session_driver`, which says the rest. What the
+//!   core promises of each call is cited and not said again: with the contents beside, it is one call of the history (`proofs/CoreCalls.antt`);
 //! - [`serve`] runs a session.
 //!
 //! What is promised of [`serve`]: the requests that were read made turns, in their order, whose entries are those by which the
@@ -17,7 +17,6 @@
 #![tactic(auto)]
 
 mod answering;
-mod asking;
 mod downloads;
 mod draws;
 mod looks;

@@ -9,7 +9,7 @@ use repo_core::Got;
 use repo_model::{GotOf, Refusal, Reply};
 
 /// The reply to a look, and the content that it opened.
-pub(crate) fn looked<R: Drop>(got: Result<Got<R>, Refusal>) -> (Reply, Option<Download<R>>)
+pub(crate) fn looked<R>(got: Result<Got<R>, Refusal>) -> (Reply, Option<Download<R>>)
     ensures reply { result.0 ≡ reply_of found_in got }
     ensures opened { result.1 ≡ opened_by got }
 {

@@ -10,10 +10,10 @@ ghost use Rattle.nx_base.specs.declared.moment.Moment.{Moment};
 ghost use Rattle.session_history.specs.Saying.{why_upload};
 ghost use Rattle.session_driver.specs.Replying.{AnswersEach, PutsAs, told};
 ghost use Rattle.repo_core.specs.View.{CoreView};
-ghost use Rattle.repo_session.specs.Devices.{devices};
+ghost use Rattle.repo_core.specs.Devices.{devices};
+ghost use Rattle.repo_session.specs.Resting.{Rests};
 ghost use Rattle.repo_session.specs.Answering.{HasBegun, IsBegun, TurnedTo, stop_of};
 
-use crate::asking::{end_upload, put_upload};
 use crate::open_upload::OpenUpload;
 use asset_keeper::Keeper;
 use blob_files::Upload;
@@ -32,18 +32,31 @@ fn failure(why: UploadErr) -> UploadErr
     }
 }
 
+/// Ends an upload that is open, if one is.
+pub(crate) fn stop_open<D: Disk, T: Keeper>(
+    core: &mut Core<D, T>,
+    open: Option<OpenUpload<D::Writer>>,
+)
+    ensures rests { Rests (devices D.Disk T.Keeper) core.old core.new }
+    ensures holds { core.new.holds ≡ core.old.holds }
+{
+    if let Some(OpenUpload { upload }) = open {
+        core.end_upload(0, upload);
+    }
+}
+
 /// Ends an upload that failed. Answers with what stopped it.
 pub(crate) fn stop_upload<D: Disk, T: Keeper>(
     core: &mut Core<D, T>,
     upload: Upload<D::Writer>,
     why: UploadErr,
 ) -> UploadErr
-    ensures stopped { (start : CoreView D T) (head : Head) (store : List ℕ) (moment : Moment) → is_put head.method ≡ true → HasBegun (devices D.told D.tree T.table D.faults T.faults) start core.old head store
+    ensures stopped { (start : CoreView D T) (head : Head) (store : List ℕ) (moment : Moment) → is_put head.method ≡ true → HasBegun (devices D.Disk T.Keeper) start core.old head store
         → (why ≡ refused.DiskFault → 0 < D.Writer.faults upload.writer)
-        → AnswersEach (TurnedTo (devices D.told D.tree T.table D.faults T.faults) start core.new moment) head (told head (last_refusal false (why_upload result))) }
+        → AnswersEach (TurnedTo (devices D.Disk T.Keeper) start core.new moment) head (told head (last_refusal false (why_upload result))) }
     ensures holds { core.new.holds ≡ core.old.holds }
 {
-    end_upload(core, upload);
+    core.end_upload(0, upload);
     failure(why)
 }
 
@@ -53,17 +66,18 @@ pub(crate) fn finish<D: Disk, T: Keeper>(
     opened: OpenUpload<D::Writer>,
     moment: Moment,
 ) -> Result<Reply, UploadErr>
-    ensures put { (start : CoreView D T) (head : Head) (content : List ℕ) → is_put head.method ≡ true → IsBegun (devices D.told D.tree T.table D.faults T.faults) D.Writer.told D.Writer.written start core.old head opened.upload content
-        → PutsAs (TurnedTo (devices D.told D.tree T.table D.faults T.faults) start core.new moment (whole head content)) head result }
+    ensures put { (start : CoreView D T) (head : Head) (content : List ℕ) → is_put head.method ≡ true → IsBegun (devices D.Disk T.Keeper) D.Writer.told D.Writer.written start core.old head opened.upload content
+        → PutsAs (TurnedTo (devices D.Disk T.Keeper) start core.new moment (whole head content)) head result }
     ensures holds { core.new.holds ≡ core.old.holds }
 {
-    let mut upload = opened.upload;
+    let OpenUpload { upload } = opened;
+    let mut upload = upload;
     let ready = match upload.seal() {
         Ok(ready) => ready,
         Err(why) => return Err(stop_upload(core, upload, why)),
     };
-    end_upload(core, upload);
-    match put_upload(core, ready, moment) {
+    core.end_upload(0, upload);
+    match core.commit_put(0, ready, moment) {
         Ok(asset) => Ok(Reply::Stored { asset }),
         Err(refusal) => Ok(Reply::Refused(refusal)),
     }

@@ -1,8 +1,14 @@
 use disk_model::{DiskErr, Writer};
 
 /// A file that takes every part and keeps nothing, so that a large content needs no room.
-#[derive(Drop)]
 pub struct Drain;
+
+impl Drain {
+    /// Lets it go.
+    pub fn end(self) {
+        let Drain = self;
+    }
+}
 
 impl Writer for Drain {
     ghost use Rattle.std.specs.Prelude.{[], None};
@@ -27,5 +33,7 @@ impl Writer for Drain {
         Ok(Drain)
     }
 
-    fn abort(self) {}
+    fn abort(self) {
+        self.end();
+    }
 }

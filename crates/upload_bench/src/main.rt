@@ -9,7 +9,7 @@ mod stop;
 
 use crate::drain::Drain;
 use crate::stop::Stop;
-use blob_files::Upload;
+use blob_files::{Ready, Upload};
 use nx_base::{AssetPath, ContentType, Key, RepoName, StoreName};
 use repo_model::{Begin, Kind, UploadErr};
 use std::alloc::Global;
@@ -27,7 +27,8 @@ fn begun(alloc: Global) -> Result<Upload<Drain>, Stop>
         content_type: ContentType::parse(alloc, b"text/plain")?,
         kind: Kind::Put,
     };
-    Ok(Upload::new(begin, StoreName::parse(alloc, b"default")?, Drain))
+    let store = StoreName::parse(alloc, b"default")?;
+    Ok(Upload::new(begin, store, Drain))
 }
 
 /// Writes so many parts.
@@ -42,18 +43,52 @@ fn write_parts(upload: &mut Upload<Drain>, parts: u64) -> Result<(), Stop>
     Ok(())
 }
 
+/// What became of a content: its size, its SHA-1, and whether one byte more was refused.
+#[derive(Drop)]
+struct Sum {
+    size: u64,
+    sha1: [u8; 20],
+    refused: bool,
+}
+
+/// Writes so many parts into the upload and one byte more, and seals it.
+fn fill(upload: &mut Upload<Drain>, parts: u64) -> Result<Sum, Stop>
+    requires { IsSome upload.old.target }
+{
+    write_parts(upload, parts)?;
+    let refused = match upload.write(b"A") {
+        Ok(()) => false,
+        Err(UploadErr::BodyTooLarge) => true,
+        Err(e) => return Err(Stop::Upload(e)),
+    };
+    let Ready {
+        file,
+        begin: _,
+        store: _,
+        size,
+        sha1,
+    } = upload.seal()?;
+    file.end();
+    Ok(Sum {
+        size,
+        sha1,
+        refused,
+    })
+}
+
 /// Does all that the word asks for.
 fn measure(rt: &HostRuntime, parts: u64) -> Result<(), Stop> {
     let mut upload = begun(rt.alloc())?;
-    write_parts(&mut upload, parts)?;
-    let more = match upload.write(b"A") {
-        Ok(()) => "taken",
-        Err(UploadErr::BodyTooLarge) => "refused",
-        Err(e) => return Err(Stop::Upload(e)),
-    };
-    let ready = upload.seal()?;
-    let digest = hex::encode(rt.alloc(), ready.sha1)?;
-    println!(rt; "size {} sha1 {digest} one more {more}", ready.size)?;
+    let filled = fill(&mut upload, parts);
+    upload.abort();
+    let Sum {
+        size,
+        sha1,
+        refused,
+    } = filled?;
+    let more = if refused { "refused" } else { "taken" };
+    let digest = hex::encode(rt.alloc(), sha1)?;
+    println!(rt; "size {size} sha1 {digest} one more {more}")?;
     Ok(())
 }
 

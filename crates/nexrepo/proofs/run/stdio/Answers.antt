@@ -1,5 +1,5 @@
 use Rattle.std.proofs.Common.{inr, refl}
-use Rattle.repo_session.specs.Devices.{devices}
+use Rattle.repo_core.specs.Devices.{devices}
 use Rattle.nexrepo.proofs.Held.{holds_session, session_stands, nothing_stands}
 use Rattle.nexrepo.proofs.run.stdio.Goals as goal
 
@@ -9,16 +9,16 @@ returns-in_default-clause-history g c =
 
 pub returns-in-Ok-open-clause-session : goal.returns-in-Ok-open-clause-session
 returns-in-Ok-open-clause-session g c =
-    inr (holds_session (devices g.D.Disk.told g.D.Disk.tree g.T.Keeper.table g.D.Disk.faults g.T.Keeper.faults) c.args.moments.now c.args.disk c.args.table
+    inr (holds_session (devices g.D.Disk g.T.Keeper) c.args.moments.now c.args.disk c.args.table
     (g.S.Source.left c.args.input.now) (g.S.Source.left c.session.new.input) (g.S.Source.ended c.session.new.input) (g.K.Sink.taken c.args.output.now) (g.K.Sink.taken c.session.new.output)
     c.session.result c.in-Ok-open.core c.in-Ok-open.ensures.opened (rw c.in-Ok.ensures.0 at c.session.ensures.session))
 
 pub returns-in-Ok-open-clause-history : goal.returns-in-Ok-open-clause-history
 returns-in-Ok-open-clause-history g c = λ settings file fresh.
-    session_stands (devices g.D.Disk.told g.D.Disk.tree g.T.Keeper.table g.D.Disk.faults g.T.Keeper.faults) c.args.moments.now c.args.disk c.args.table
+    session_stands (devices g.D.Disk g.T.Keeper) c.args.moments.now c.args.disk c.args.table
     (g.S.Source.left c.args.input.now) (g.S.Source.left c.session.new.input) (g.S.Source.ended c.session.new.input) (g.K.Sink.taken c.args.output.now) (g.K.Sink.taken c.session.new.output)
     c.session.result
-    (holds_session (devices g.D.Disk.told g.D.Disk.tree g.T.Keeper.table g.D.Disk.faults g.T.Keeper.faults) c.args.moments.now c.args.disk c.args.table
+    (holds_session (devices g.D.Disk g.T.Keeper) c.args.moments.now c.args.disk c.args.table
     (g.S.Source.left c.args.input.now) (g.S.Source.left c.session.new.input) (g.S.Source.ended c.session.new.input) (g.K.Sink.taken c.args.output.now) (g.K.Sink.taken c.session.new.output)
     c.session.result c.in-Ok-open.core c.in-Ok-open.ensures.opened (rw c.in-Ok.ensures.0 at c.session.ensures.session))
     settings file fresh

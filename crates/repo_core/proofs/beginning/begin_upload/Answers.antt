@@ -25,6 +25,9 @@ use Rattle.repo_core.proofs.Runs.{nothing_ran, still_same}
 use Rattle.repo_core.proofs.Samenesses.{files_same, files_counted}
 use Rattle.repo_core.proofs.Givings.{agrees_same}
 use Rattle.repo_core.proofs.BeginSteps.{kept_row, begins}
+use Rattle.repo_core.specs.Faults.{refusal_of_fault}
+use Rattle.repo_core.specs.Why.{WhyNotBegun}
+use Rattle.repo_core.proofs.Whys.{barred_begin, failed_begin}
 use Rattle.repo_core.proofs.beginning.begin_upload.Goals as goal
 
 pub returns-in-Err-clause-ends : goal.returns-in-Err-clause-ends
@@ -111,4 +114,46 @@ returns-clause-ends g c = λ told some s a.
             ∙ ap (λ (n : List ℕ). map.insert s.counts n ((chosen.count + 1) % 2 ^ 64)) is.group_is
             ∙ ap (λ (n : ℕ). map.insert s.counts store ((n + 1) % 2 ^ 64)) is.count_is;
       },
+    )
+
+pub returns-in-Err-clause-why : goal.returns-in-Err-clause-why
+returns-in-Err-clause-why g c = c.in-Err.ensures.why (g.T.Keeper.found c.args.table.now)
+
+pub returns-in-Err-may_replace-clause-why : goal.returns-in-Err-may_replace-clause-why
+returns-in-Err-may_replace-clause-why g c =
+    let opens = c.in-Ok.ensures.opens in
+    let denied = c.in-Err-may_replace.ensures.denied in
+    barred_begin (config_of c.args.config.now) c.args.own.now.counts c.args.begin.now.key (g.T.Keeper.found c.may_replace.new.table) opens.0 opens.1 c.in-Err-may_replace.why (opens.2 ∙ denied.0) denied.1
+
+pub returns-in-Err-temp-clause-why : goal.returns-in-Err-temp-clause-why
+returns-in-Err-temp-clause-why g c =
+    let opens = c.in-Ok.ensures.opens in
+    let config = config_of c.args.config.now in
+    let counts = c.args.own.now.counts in
+    let key = c.args.begin.now.key in
+    let found = g.T.Keeper.found c.may_replace.new.table in
+    subst (λ (w : Fault). WhyNotBegun config counts key found (refusal_of_fault w)) (sym c.disk_fault.ensures)
+    (failed_begin config counts key found opens.0 opens.1 (λ keeps. c.in_default.ensures.free (sym opens.2 ∙ keeps)) c.in-Err-temp.refusal)
+
+pub returns-clause-counted : goal.returns-clause-counted
+returns-clause-counted g c =
+    let own = c.args.own.now in
+    let chosen = c.in-Ok.chosen in
+    let group = c.in-Ok.ensures.group in
+    let own_is : c.count_upload.new.own ≡ record own { counts = map.insert own.counts chosen.group ((chosen.count + 1) % 2 ^ 64) } = search rules in (
+      group.0,
+      group.1,
+      own_is
+          ∙ ap (λ (n : List ℕ). record own { counts = map.insert own.counts n ((chosen.count + 1) % 2 ^ 64) }) group.2
+          ∙ ap (λ (n : ℕ). record own { counts = map.insert own.counts (write_store group.0) ((n + 1) % 2 ^ 64) }) group.3,
+    )
+
+pub returns-in_default-copy_begin-clause-ends : goal.returns-in_default-copy_begin-clause-ends
+returns-in_default-copy_begin-clause-ends g c = λ told some s a.
+    let config = config_of c.args.config.now in
+    let tree = g.D.Disk.tree c.args.disk.now in
+    let before = g.T.Keeper.table c.args.table.now in
+    let after = g.T.Keeper.table c.may_replace.new.table in (
+      fault_denies config s (call.Begin c.args.begin.now) fault.Memory a.sound,
+      agrees_same config tree tree (rows_in before) (rows_in after) c.args.own.now c.args.own.now s (λ n out. refl) (rows_same before after some c.may_replace.ensures.same) refl a,
     )

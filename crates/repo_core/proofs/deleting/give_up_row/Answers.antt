@@ -1,4 +1,4 @@
-use Rattle.std.proofs.Common.{◌≡◌, ℕ, Some, List, [], Err, codes, ⊎_elim, OnOk, refl, sym, ◌∙◌, ap, subst, Option, Result}
+use Rattle.std.proofs.Common.{◌≡◌, true≢false, ◌⊎◌, inl, ℕ, Some, List, [], Err, codes, ⊎_elim, OnOk, refl, sym, ◌∙◌, ap, subst, Option, Result}
 use Rattle.std.specs.FinMap as map
 use Rattle.nx_base.specs.Order.{key_cmp}
 use Rattle.nx_base.specs.declared.asset.Asset.{Asset}
@@ -20,15 +20,21 @@ use Rattle.repo_core.specs.declared.denial.Denial.{Denial}
 use Rattle.repo_core.specs.declared.denial.Denial.TheVariants as denial
 use Rattle.repo_core.specs.declared.stop.Stop.{Stop}
 use Rattle.repo_core.specs.declared.stop.Stop.TheVariants as stop
+use Rattle.repo_core.specs.Asks.{TouchesRow, RemovesRow}
+use Rattle.repo_core.specs.Devices.{devices}
 use Rattle.repo_core.specs.Ends.{Denies}
 use Rattle.repo_core.specs.Marks.{IsMarkOf}
 use Rattle.repo_core.specs.Rows.{rows_in}
 use Rattle.repo_core.specs.Faults.{of_disk}
 use Rattle.repo_core.proofs.Steps.{fault_denies}
-use Rattle.repo_core.proofs.Tables.{rows_same, rows_changed, still_told}
+use Rattle.repo_core.proofs.Answering.{tells_map}
+use Rattle.repo_core.proofs.Rests.{rest_put, rest_quiet, rest_still, rest_then, same_then_changed}
+use Rattle.repo_core.proofs.Tables.{rows_same, rows_changed, still_told, tells_then}
 use Rattle.repo_core.proofs.Runs.{nothing_ran, at_end}
 use Rattle.repo_core.proofs.Stays.{stay_same, stay_marked}
 use Rattle.repo_core.proofs.Givings.{crash_same, crash_marked, marks_done, agrees_same, agrees_gone, is_readable}
+use Rattle.repo_core.proofs.Whys.{failed_delete, unstaged_delete}
+use Rattle.repo_core.proofs.Texts.{has_mark, row_marked}
 use Rattle.repo_core.proofs.deleting.give_up_row.Goals as goal
 
 abbrev deleted : List ℕ
@@ -45,7 +51,7 @@ returns-in-Err-clause-ends g c = λ told some s a.
 
 pub returns-in-Err-clause-crash : goal.returns-in-Err-clause-crash
 returns-in-Err-clause-crash g c = λ told some s a settled.
-    crash_same (config_of c.args.config.now) (g.D.Disk.tree c.args.disk.now) s a.files g.D.Disk.clock g.D.Disk.lists c.args.disk.now c.args.disk.now (call.Delete c.args.key.now c.args.now) settled
+    crash_same (config_of c.args.config.now) (g.D.Disk.tree c.args.disk.now) s a.files g.D.Disk.clock g.D.Disk.lists c.args.disk.now c.args.disk.now [] (call.Delete c.args.key.now c.args.now) settled
     (nothing_ran g.D.Disk.clock g.D.Disk.lists c.args.disk.now)
 
 pub returns-in-Err-stage-clause-ends : goal.returns-in-Err-stage-clause-ends
@@ -66,7 +72,7 @@ returns-in-Err-stage-clause-ends g c = λ told some s a.
 
 pub returns-in-Err-stage-clause-crash : goal.returns-in-Err-stage-clause-crash
 returns-in-Err-stage-clause-crash g c = λ told some s a settled.
-    crash_same (config_of c.args.config.now) (g.D.Disk.tree c.args.disk.now) s a.files g.D.Disk.clock g.D.Disk.lists c.args.disk.now c.stage.new.disk (call.Delete c.args.key.now c.args.now) settled
+    crash_same (config_of c.args.config.now) (g.D.Disk.tree c.args.disk.now) s a.files g.D.Disk.clock g.D.Disk.lists c.args.disk.now c.stage.new.disk [] (call.Delete c.args.key.now c.args.now) settled
     (c.stage.ensures.any_moment told)
 
 pub returns-in-Err-stage-clause-durable : goal.returns-in-Err-stage-clause-durable
@@ -119,7 +125,7 @@ returns-in-Ok-show-clause-crash g c = λ told some s a settled.
     let here = still_told (λ t u. u ≡ changed t (change.Remove key)) (table c.row_to_delete.new.table) (table c.show.new.table) some told_rows in
     let may = c.in-Ok.ensures.row here s a.sound a.rows_are in
     crash_marked config (tree c.args.disk.now) s a.files key c.in-Ok.asset may.0 (call.Delete key c.args.now) g.D.Writer.Writer.content deleted at c.in-Ok-stage.staged.mark (subst (λ (t : ℕ). IsMarkOf g.D.Writer.Writer.content (tree c.args.disk.now) c.in-Ok.asset.blob deleted t c.in-Ok-stage.staged.mark) c.time.ensures (c.in-Ok-stage.ensures.mark told))
-    g.D.Disk.clock g.D.Disk.lists c.args.disk.now c.stage.new.disk c.show.new.disk (without_row s key c.in-Ok.asset at) reply.Gone ([], may.1) refl refl settled
+    g.D.Disk.clock g.D.Disk.lists c.args.disk.now c.stage.new.disk c.show.new.disk (without_row s key c.in-Ok.asset at) reply.Gone may.1 refl refl settled
     (c.stage.ensures.any_moment told) (c.show.ensures.any_moment told)
 
 pub returns-in-Ok-show-clause-durable : goal.returns-in-Ok-show-clause-durable
@@ -150,7 +156,7 @@ returns-clause-crash g c = λ told some s a settled.
     let here = still_told (λ t u. OnOk {T = Unit {0}} (Err c.in-Err-show.fault) (u ≡ changed t c.in-Ok-stage.staged.change)) (table c.row_to_delete.new.table) (table c.show.new.table) some c.in-Err-show.ensures.rows in
     let may = c.in-Ok.ensures.row here s a.sound a.rows_are in
     crash_marked config (tree c.args.disk.now) s a.files key c.in-Ok.asset may.0 (call.Delete key c.args.now) g.D.Writer.Writer.content deleted at c.in-Ok-stage.staged.mark (subst (λ (t : ℕ). IsMarkOf g.D.Writer.Writer.content (tree c.args.disk.now) c.in-Ok.asset.blob deleted t c.in-Ok-stage.staged.mark) c.time.ensures (c.in-Ok-stage.ensures.mark told))
-    g.D.Disk.clock g.D.Disk.lists c.args.disk.now c.stage.new.disk c.show.new.disk (without_row s key c.in-Ok.asset at) reply.Gone ([], may.1) refl refl settled
+    g.D.Disk.clock g.D.Disk.lists c.args.disk.now c.stage.new.disk c.show.new.disk (without_row s key c.in-Ok.asset at) reply.Gone may.1 refl refl settled
     (c.stage.ensures.any_moment told) (c.show.ensures.any_moment told)
 
 denied_so : (a b : Denial) (x y : Result (Unit {0}) Stop) → x ≡ Err (stop.Denied a) → y ≡ Err (stop.Denied b) → x ≡ y → a ≡ b
@@ -183,3 +189,94 @@ returns-clause-stays g c = λ told.
     let tree = g.D.Disk.tree in
     stay_marked (tree c.args.disk.now) (tree c.stage.new.disk) (tree c.show.new.disk) c.in-Ok-stage.staged.mark.files.place
     (stay_same (tree c.args.disk.now) (tree c.stage.new.disk) (c.stage.ensures.tree told)) (c.show.ensures.rest told)
+
+pub returns-in-Err-stage-clause-why : goal.returns-in-Err-stage-clause-why
+returns-in-Err-stage-clause-why g c =
+    unstaged_delete (config_of c.args.config.now) c.args.key.now (g.T.Keeper.found c.row_to_delete.new.table) c.in-Ok.ensures.opens.0 c.in-Ok.ensures.opens.1
+    g.D.Disk.told (g.D.Disk.tree c.args.disk.now) c.in-Ok.asset c.in-Err-stage.why c.in-Err-stage.ensures.denied
+
+pub returns-clause-why : goal.returns-clause-why
+returns-clause-why g c =
+    failed_delete (config_of c.args.config.now) c.args.key.now (g.T.Keeper.found c.show.new.table) c.in-Ok.ensures.opens.0 (c.show.ensures.found ∙ c.in-Ok.ensures.opens.1) c.in-Err-show.fault
+
+pub returns-in-Err-clause-rest : goal.returns-in-Err-clause-rest
+returns-in-Err-clause-rest g c = λ told some s a. rest_still (devices g.D.Disk g.T.Keeper) (TouchesRow c.args.key.now s) told c.args.disk.now
+
+pub returns-in-Err-clause-table : goal.returns-in-Err-clause-table
+returns-in-Err-clause-table g c =
+    tells_map (λ s t. t ≡ s) (λ s t. (t ≡ s) ⊎ RemovesRow c.args.key.now s t) (g.T.Keeper.table c.args.table.now) (g.T.Keeper.table c.row_to_delete.new.table) (λ s t same. inl same) c.row_to_delete.ensures.same
+
+pub returns-in-Err-stage-clause-rest : goal.returns-in-Err-stage-clause-rest
+returns-in-Err-stage-clause-rest g c = λ told some s a.
+    rest_quiet (devices g.D.Disk g.T.Keeper) (TouchesRow c.args.key.now s) told c.args.disk.now c.stage.new.disk (record { files = c.stage.ensures.tree; moments = c.stage.ensures.any_moment; shown = c.stage.ensures.shown })
+
+pub returns-in-Err-stage-clause-table : goal.returns-in-Err-stage-clause-table
+returns-in-Err-stage-clause-table g c =
+    tells_map (λ s t. t ≡ s) (λ s t. (t ≡ s) ⊎ RemovesRow c.args.key.now s t) (g.T.Keeper.table c.args.table.now) (g.T.Keeper.table c.row_to_delete.new.table) (λ s t same. inl same) c.row_to_delete.ensures.same
+
+pub returns-in-Ok-show-clause-rest : goal.returns-in-Ok-show-clause-rest
+returns-in-Ok-show-clause-rest g c = λ told some s a.
+    let on = devices g.D.Disk g.T.Keeper in
+    let table = g.T.Keeper.table in
+    let mark = c.in-Ok-stage.staged.mark in
+    let asset = c.in-Ok.asset in
+    let here = still_told (λ t u. (u ≡ t) ⊎ (u ≡ changed t c.in-Ok-stage.staged.change)) (table c.row_to_delete.new.table) (table c.show.new.table) some c.show.ensures.table in
+    let row = (c.in-Ok.ensures.row here s a.sound a.rows_are).0 in
+    rest_then on (TouchesRow c.args.key.now s) c.args.disk.now c.stage.new.disk c.show.new.disk
+    (rest_quiet on (TouchesRow c.args.key.now s) told c.args.disk.now c.stage.new.disk (record { files = c.stage.ensures.tree; moments = c.stage.ensures.any_moment; shown = c.stage.ensures.shown }))
+    (rest_put on (TouchesRow c.args.key.now s) (props_at mark.files.place) (Some (g.D.Writer.Writer.content mark.file)) c.stage.new.disk c.show.new.disk (asset, row, ap props_at (c.in-Ok-stage.ensures.mark told).place_is)
+    (c.show.ensures.rest told) (c.show.ensures.any_moment told))
+
+pub returns-in-Ok-show-clause-table : goal.returns-in-Ok-show-clause-table
+returns-in-Ok-show-clause-table g c =
+    let change_is = c.in-Ok-stage.ensures.change in
+    tells_then (λ s t. t ≡ s) (λ t u. (u ≡ t) ⊎ (u ≡ changed t c.in-Ok-stage.staged.change)) (λ s u. (u ≡ s) ⊎ RemovesRow c.args.key.now s u)
+    (g.T.Keeper.table c.args.table.now) (g.T.Keeper.table c.row_to_delete.new.table) (g.T.Keeper.table c.show.new.table)
+    (λ s t u first second. same_then_changed c.in-Ok-stage.staged.change (change.Remove c.args.key.now) s t u change_is first second) c.row_to_delete.ensures.same c.show.ensures.table
+
+pub returns-clause-rest : goal.returns-clause-rest
+returns-clause-rest g c = λ told some s a.
+    let on = devices g.D.Disk g.T.Keeper in
+    let table = g.T.Keeper.table in
+    let mark = c.in-Ok-stage.staged.mark in
+    let asset = c.in-Ok.asset in
+    let here = still_told (λ t u. (u ≡ t) ⊎ (u ≡ changed t c.in-Ok-stage.staged.change)) (table c.row_to_delete.new.table) (table c.show.new.table) some c.show.ensures.table in
+    let row = (c.in-Ok.ensures.row here s a.sound a.rows_are).0 in
+    rest_then on (TouchesRow c.args.key.now s) c.args.disk.now c.stage.new.disk c.show.new.disk
+    (rest_quiet on (TouchesRow c.args.key.now s) told c.args.disk.now c.stage.new.disk (record { files = c.stage.ensures.tree; moments = c.stage.ensures.any_moment; shown = c.stage.ensures.shown }))
+    (rest_put on (TouchesRow c.args.key.now s) (props_at mark.files.place) (Some (g.D.Writer.Writer.content mark.file)) c.stage.new.disk c.show.new.disk (asset, row, ap props_at (c.in-Ok-stage.ensures.mark told).place_is)
+    (c.show.ensures.rest told) (c.show.ensures.any_moment told))
+
+pub returns-clause-table : goal.returns-clause-table
+returns-clause-table g c =
+    tells_then (λ s t. t ≡ s) (λ t u. (u ≡ t) ⊎ (u ≡ changed t c.in-Ok-stage.staged.change)) (λ s u. (u ≡ s) ⊎ RemovesRow c.args.key.now s u)
+    (g.T.Keeper.table c.args.table.now) (g.T.Keeper.table c.row_to_delete.new.table) (g.T.Keeper.table c.show.new.table)
+    (λ s t u first second. same_then_changed c.in-Ok-stage.staged.change (change.Remove c.args.key.now) s t u c.in-Ok-stage.ensures.change first second) c.row_to_delete.ensures.same c.show.ensures.table
+
+pub returns-in-Ok-show-clause-marked : goal.returns-in-Ok-show-clause-marked
+returns-in-Ok-show-clause-marked g c = λ told some s asset a row.
+    let tree = g.D.Disk.tree in
+    let table = g.T.Keeper.table in
+    let mark = c.in-Ok-stage.staged.mark in
+    let here = still_told (λ t u. (u ≡ t) ⊎ (u ≡ changed t c.in-Ok-stage.staged.change)) (table c.row_to_delete.new.table) (table c.show.new.table) some c.show.ensures.table in
+    let may = c.in-Ok.ensures.row here s a.sound a.rows_are in
+    row_marked (tree c.args.disk.now) (tree c.show.new.disk) deleted c.time.result (time_of c.args.now) c.in-Ok.asset asset _ may.0 row c.time.ensures
+    (has_mark g.D.Writer.Writer.content (tree c.args.disk.now) (tree c.show.new.disk) c.in-Ok.asset.blob deleted c.time.result mark (c.in-Ok-stage.ensures.mark told) (c.in-Ok-show.ensures.named told))
+
+pub returns-in-Err-clause-keeps : goal.returns-in-Err-clause-keeps
+returns-in-Err-clause-keeps g c = λ moment is made. absurd (true≢false made)
+
+pub returns-in-Err-stage-clause-keeps : goal.returns-in-Err-stage-clause-keeps
+returns-in-Err-stage-clause-keeps g c = λ moment is made. absurd (true≢false made)
+
+pub returns-in-Ok-show-clause-keeps : goal.returns-in-Ok-show-clause-keeps
+returns-in-Ok-show-clause-keeps g c = λ moment is made. (
+  c.in-Ok.asset,
+  c.in-Ok-stage.ensures.trash ∙ ap (λ (t : ℕ). record c.args.own.now { trash = discarded c.args.own.now.trash c.args.key.now c.in-Ok.asset t }) (c.time.ensures ∙ ap time_of (sym is)),
+)
+
+pub returns-clause-keeps : goal.returns-clause-keeps
+returns-clause-keeps g c = λ moment is made. (
+  c.in-Ok.asset,
+  c.in-Ok-stage.ensures.trash ∙ ap (λ (t : ℕ). record c.args.own.now { trash = discarded c.args.own.now.trash c.args.key.now c.in-Ok.asset t }) (c.time.ensures ∙ ap time_of (sym is)),
+)

@@ -1,4 +1,4 @@
-use Rattle.std.proofs.Common.{◌≡◌, ℕ, [], Some, OnOk, IfOk, true, refl, sym, ◌∙◌, ap, subst}
+use Rattle.std.proofs.Common.{◌≡◌, ◌⊎◌, inl, ℕ, [], Some, OnOk, IfOk, IfErr, true, refl, sym, ◌∙◌, ap, subst}
 use Rattle.std.specs.FinMap as map
 use Rattle.asset_keeper.specs.Told.{Tells}
 use Rattle.disk_model.specs.Disk.{Tree}
@@ -17,7 +17,13 @@ use Rattle.repo_core.specs.Ends.{Ends}
 use Rattle.repo_core.specs.Rows.{rows_in}
 use Rattle.repo_core.proofs.Givings.{agrees_same}
 use Rattle.repo_core.proofs.Serving.{ends_served, never_damaged, served_content}
-use Rattle.repo_core.proofs.Tables.{rows_same, still_told}
+use Rattle.repo_core.proofs.Tables.{rows_same, still_told, tells_then}
+use Rattle.repo_core.specs.Faults.{refusal_of_stop}
+use Rattle.repo_core.specs.Why.{WhyNotGiven}
+use Rattle.repo_core.proofs.Whys.{unserved}
+use Rattle.repo_core.specs.Asks.{SetsRow}
+use Rattle.repo_core.proofs.Answering.{tells_map}
+use Rattle.repo_core.proofs.Rests.{same_then_set}
 use Rattle.repo_core.proofs.getting.give.Goals as goal
 
 pub returns-in-Err-clause-ends : goal.returns-in-Err-clause-ends
@@ -81,3 +87,33 @@ returns-in-Ok-known-clause-ends g c = λ told some own s a.
       ([], step ∙ ap (λ (x : Asset). Some (record { reply = reply.Found x; new = s })) (sym (given.copied ∙ c.in-Ok-known.ensures.asset))),
       agrees_same config tree tree (rows_in before) (rows_in after) own own s (λ n out. refl) (rows_same before after some c.in-Ok.ensures.same) refl a,
     )
+
+pub returns-in-Err-clause-why : goal.returns-in-Err-clause-why
+returns-in-Err-clause-why g c = c.in-Err.ensures.why c.args.look (g.D.Disk.last_look c.args.disk.now)
+
+pub returns-in-Get-clause-why : goal.returns-in-Get-clause-why
+returns-in-Get-clause-why g c =
+    let config = config_of c.args.config.now in
+    let key = c.args.key.now in
+    let found = g.T.Keeper.found c.serve.new.table in
+    let looked = g.D.Disk.last_look c.serve.new.disk in
+    subst (λ (l : Look). IfErr c.serve.result (λ e. WhyNotGiven config key l found looked (refusal_of_stop e))) (sym c.in-Get.is)
+    (unserved config key found looked c.in-Ok.ensures.opens.0 (c.serve.ensures.found ∙ c.in-Ok.ensures.opens.1) g.D.Disk.told (g.D.Disk.tree c.args.disk.now) c.in-Ok.asset c.serve.result c.serve.ensures.denied)
+
+pub returns-in-Err-clause-table : goal.returns-in-Err-clause-table
+returns-in-Err-clause-table g c =
+    tells_map (λ s t. t ≡ s) (λ s t. (t ≡ s) ⊎ SetsRow c.args.key.now s t) (g.T.Keeper.table c.args.table.now) (g.T.Keeper.table c.row_to_give.new.table) (λ s t same. inl same) c.row_to_give.ensures.same
+
+pub returns-in-Get-clause-table : goal.returns-in-Get-clause-table
+returns-in-Get-clause-table g c =
+    tells_then (λ s t. t ≡ s) (λ t u. (u ≡ t) ⊎ SetsRow c.args.key.now t u) (λ s u. (u ≡ s) ⊎ SetsRow c.args.key.now s u)
+    (g.T.Keeper.table c.args.table.now) (g.T.Keeper.table c.row_to_give.new.table) (g.T.Keeper.table c.serve.new.table)
+    (λ s t u first second. same_then_set c.args.key.now s t u first second) c.row_to_give.ensures.same c.serve.ensures.table
+
+pub returns-in-Ok-known-clause-table : goal.returns-in-Ok-known-clause-table
+returns-in-Ok-known-clause-table g c =
+    tells_map (λ s t. t ≡ s) (λ s t. (t ≡ s) ⊎ SetsRow c.args.key.now s t) (g.T.Keeper.table c.args.table.now) (g.T.Keeper.table c.row_to_give.new.table) (λ s t same. inl same) c.row_to_give.ensures.same
+
+pub returns-in-Err-known-clause-table : goal.returns-in-Err-known-clause-table
+returns-in-Err-known-clause-table g c =
+    tells_map (λ s t. t ≡ s) (λ s t. (t ≡ s) ⊎ SetsRow c.args.key.now s t) (g.T.Keeper.table c.args.table.now) (g.T.Keeper.table c.row_to_give.new.table) (λ s t same. inl same) c.row_to_give.ensures.same

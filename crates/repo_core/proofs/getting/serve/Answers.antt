@@ -1,9 +1,14 @@
-use Rattle.std.proofs.Common.{◌∙◌, ap}
+use Rattle.std.proofs.Common.{◌≡◌, ◌⊎◌, inl, refl, ◌∙◌, ap}
+use Rattle.nx_base.specs.Given.{given}
+use Rattle.asset_keeper.specs.Table.{changed}
 use Rattle.disk_model.specs.Disk.{Lists, Same}
 use Rattle.disk_model.proofs.Chain.{goes_on}
 use Rattle.repo_model.specs.Serving.{downloaded}
 use Rattle.repo_core.proofs.Runs.{at_end}
 use Rattle.repo_core.proofs.Lookings.{tells_noted}
+use Rattle.repo_core.specs.Asks.{SetsRow}
+use Rattle.repo_core.proofs.Answering.{tells_map}
+use Rattle.repo_core.proofs.Rests.{noted_row, tells_still}
 use Rattle.repo_core.proofs.getting.serve.Goals as goal
 
 pub returns-in-Err-save-clause-any_moment : goal.returns-in-Err-save-clause-any_moment
@@ -21,3 +26,19 @@ pub returns-clause-rows : goal.returns-clause-rows
 returns-clause-rows g c =
     tells_noted (g.T.Keeper.table c.args.table.now) (g.T.Keeper.table c.save.new.table) c.in-Ok.note.change c.args.key.now c.args.asset (downloaded c.args.asset c.args.at)
     c.in-Ok.ensures.change_is c.in_default-save.ensures.rows
+
+pub returns-in_default-clause-table : goal.returns-in_default-clause-table
+returns-in_default-clause-table g c = tells_still (λ s t. (t ≡ s) ⊎ SetsRow c.args.key.now s t) (λ t. inl refl) (g.T.Keeper.table c.args.table.now)
+
+pub returns-in-Err-clause-table : goal.returns-in-Err-clause-table
+returns-in-Err-clause-table g c = tells_still (λ s t. (t ≡ s) ⊎ SetsRow c.args.key.now s t) (λ t. inl refl) (g.T.Keeper.table c.args.table.now)
+
+pub returns-in-Err-save-clause-table : goal.returns-in-Err-save-clause-table
+returns-in-Err-save-clause-table g c =
+    tells_map (λ s t. (t ≡ s) ⊎ (t ≡ given c.in-Ok.note.change s (changed s))) (λ s t. (t ≡ s) ⊎ SetsRow c.args.key.now s t) (g.T.Keeper.table c.args.table.now) (g.T.Keeper.table c.save.new.table)
+    (λ s t leaves. noted_row c.args.key.now c.args.asset (downloaded c.args.asset c.args.at) s t c.in-Ok.note.change c.in-Ok.ensures.change_is leaves) c.save.ensures.table
+
+pub returns-clause-table : goal.returns-clause-table
+returns-clause-table g c =
+    tells_map (λ s t. (t ≡ s) ⊎ (t ≡ given c.in-Ok.note.change s (changed s))) (λ s t. (t ≡ s) ⊎ SetsRow c.args.key.now s t) (g.T.Keeper.table c.args.table.now) (g.T.Keeper.table c.save.new.table)
+    (λ s t leaves. noted_row c.args.key.now c.args.asset (downloaded c.args.asset c.args.at) s t c.in-Ok.note.change c.in-Ok.ensures.change_is leaves) c.save.ensures.table

@@ -1,116 +1,115 @@
-use Rattle.std.proofs.Common.{rules, ◌≡◌, length, None, true, OnErr, refl, sym, ◌∙◌, ap, subst}
-use Rattle.disk_model.specs.Disk.{Same}
-use Rattle.disk_model.proofs.Images.{settled_same}
+use Rattle.std.proofs.Common.{rules, ◌≡◌, inl, [], ◌∷◌, length, None, refl, sym, ◌∙◌, ap, subst}
+use Rattle.repo_model.specs.declared.entry.Entry.{Entry}
 use Rattle.repo_model.specs.declared.reply.Reply.{Reply}
 use Rattle.repo_model.specs.declared.reply.Reply.TheVariants as reply
-use Rattle.repo_model.specs.State.{State}
-use Rattle.repo_model.specs.Plain.{config_of}
 use Rattle.repo_model.specs.History.{Follows}
-use Rattle.repo_core.specs.Agree.{Agrees}
+use Rattle.repo_model.specs.Plain.{config_of}
+use Rattle.repo_core.specs.declared.putting.Kept.{Kept}
+use Rattle.repo_core.specs.Answers.{reply_of, entry_of}
+use Rattle.repo_core.specs.Asks.{puts, Stamps, TouchesNew, SetsRow}
+use Rattle.repo_core.specs.Called.{parts_of}
+use Rattle.repo_core.specs.Devices.{devices}
+use Rattle.repo_core.specs.Parts.{StandFor}
+use Rattle.repo_core.specs.Barred.{BarredBy}
+use Rattle.repo_core.specs.Puts.{put_call, upload_of, asset_of, MayGo, AreBytes}
 use Rattle.repo_core.specs.Standing.{AnswersAt}
-use Rattle.repo_core.specs.Answers.{reply_of, is_denied}
-use Rattle.repo_core.specs.Puts.{put_call, upload_of}
-use Rattle.repo_core.specs.Rows.{rows_in}
-use Rattle.repo_core.proofs.Runs.{nothing_ran, still_same}
-use Rattle.repo_core.proofs.Givings.{crash_same}
-use Rattle.repo_core.proofs.Stays.{stay_same}
-use Rattle.repo_core.proofs.Breaks.{broke_number, broke_disk, broke_keeper}
-use Rattle.repo_core.proofs.Finishings.{next_at, follows_broken, outcome_broken, not_broke}
-use Rattle.repo_core.proofs.Answering.{same_reply, if_refused, tells_map, if_taken}
+use Rattle.repo_core.specs.View.{CoreView}
+use Rattle.repo_core.specs.Why.{WhyNotPut}
+use Rattle.repo_core.proofs.Answering.{same_reply}
+use Rattle.repo_core.proofs.Barrings.{barred_with_file}
+use Rattle.repo_core.proofs.CallsMade.{left_by, called_done, survives_done}
+use Rattle.repo_core.proofs.WorkAnswers.{answers_as}
+use Rattle.repo_core.proofs.Works.{worked_by}
+use Rattle.repo_core.proofs.Finishings.{next_at}
+use Rattle.repo_core.proofs.Whys.{barred_why, on_ok_said, said_why}
 use Rattle.repo_core.proofs.repository.Core.commit_put.Goals as goal
 
-pub returns-then-is_full-clause-crash : goal.returns-then-is_full-clause-crash
-returns-then-is_full-clause-crash g c = rw (← c.self.view_is) (λ told some may are s tracks sound settled.
-    let core = c.self.inside in
-    let clock = g.D.Disk.clock in
-    let lists = g.D.Disk.lists in
-    crash_same (config_of core.config) (g.D.Disk.tree core.disk) s (tracks.agrees sound).files clock lists core.disk c.discard.new.self (put_call (upload_of c.args.ready) c.args.moment) settled
-    (still_same clock lists core.disk core.disk c.discard.new.self (nothing_ran clock lists core.disk) (c.discard.ensures.time told) (c.discard.ensures.crash told)))
+pub returns-in-Some-clause-called : goal.returns-in-Some-clause-called
+returns-in-Some-clause-called g c =
+    (barred_with_file (devices g.D.Disk g.T.Keeper) c.args.caller (put_call (upload_of c.args.ready) c.args.moment) (λ asset. reply.Stored asset) (TouchesNew c.args.ready.store c.args.ready.begin.key c.args.moment) (SetsRow c.args.ready.begin.key) (Stamps c.args.ready.begin.key c.args.moment) c.args.self.now c.turn_away.new.self c.in-Some.why c.put.result
+    c.in-Some.ensures (c.put.ensures ∙ ap (λ (r : Reply). record { caller = c.args.caller; call = put_call (upload_of c.args.ready) c.args.moment; reply = r }) c.refused.ensures) c.args.ready.store
+    (MayGo (config_of c.args.self.now.config) c.args.ready.begin.key c.args.ready.store × AreBytes (upload_of c.args.ready) (g.D.Writer.Writer.content c.args.ready.file))
+    c.drop_file.new.self c.drop_file.ensures.rest c.drop_file.ensures.back c.turn_away.ensures.full c.turn_away.ensures.entry).0
 
-pub returns-then-is_full-clause-durable : goal.returns-then-is_full-clause-durable
-returns-then-is_full-clause-durable g c = rw (← c.self.view_is) (λ told none settled.
-    let core = c.self.inside in
-    let clock = g.D.Disk.clock in
-    let lists = g.D.Disk.lists in
-    settled_same (g.D.Disk.tree core.disk) (g.D.Disk.tree c.discard.new.self) (lists core.disk (clock core.disk)) (lists c.discard.new.self (clock c.discard.new.self)) settled
-    (c.discard.ensures.tree told) (c.discard.ensures.crash told))
+pub returns-in-Some-clause-survives : goal.returns-in-Some-clause-survives
+returns-in-Some-clause-survives g c =
+    (barred_with_file (devices g.D.Disk g.T.Keeper) c.args.caller (put_call (upload_of c.args.ready) c.args.moment) (λ asset. reply.Stored asset) (TouchesNew c.args.ready.store c.args.ready.begin.key c.args.moment) (SetsRow c.args.ready.begin.key) (Stamps c.args.ready.begin.key c.args.moment) c.args.self.now c.turn_away.new.self c.in-Some.why c.put.result
+    c.in-Some.ensures (c.put.ensures ∙ ap (λ (r : Reply). record { caller = c.args.caller; call = put_call (upload_of c.args.ready) c.args.moment; reply = r }) c.refused.ensures) c.args.ready.store
+    (MayGo (config_of c.args.self.now.config) c.args.ready.begin.key c.args.ready.store × AreBytes (upload_of c.args.ready) (g.D.Writer.Writer.content c.args.ready.file))
+    c.drop_file.new.self c.drop_file.ensures.rest c.drop_file.ensures.back c.turn_away.ensures.full c.turn_away.ensures.entry).1
 
-pub returns-in-Some-clause-moves : goal.returns-in-Some-clause-moves
-returns-in-Some-clause-moves g c = rw (← c.self.view_is) (λ told some room may are s tracks.
+pub returns-clause-called : goal.returns-clause-called
+returns-clause-called g c = rw (← c.self.view_is) (
+    let on = devices g.D.Disk g.T.Keeper in
     let core = c.self.inside in
-    let broken = c.in-Some.is in (
-      s,
-      (s, follows_broken (config_of core.config) (length core.journal.entries) c.args.caller s (put_call (upload_of c.args.ready) c.args.moment) c.in-Some.cause (tracks.broken ∙ broken), refl),
-      record { broken = tracks.broken; agrees = λ none. absurd (let bad = sym broken ∙ none in cc) },
-      λ steady. outcome_broken (config_of core.config) s c.args.ready.store (put_call (upload_of c.args.ready) c.args.moment) c.in-Some.cause (tracks.broken ∙ broken),
-    ))
+    let ask = puts on g.D.Writer.Writer.content (config_of core.config) c.args.caller c.args.ready c.args.moment in
+    let did = c.put_content-done in
+    let at = did.ensures in
+    let old : CoreView g.row.D.Denot g.row.T.Denot = record { disk = core.disk; table = core.table; config = core.config; journal = core.journal; own = core.own; holds = core.holds.items; broken = core.broken } in
+    let left : CoreView g.row.D.Denot g.row.T.Denot = left_by old did.new.disk did.new.table did.new.own core.holds.items c.put-2.result c.cause_of-cause.result in
+    let free : BarredBy old None = subst (λ (k : CoreView g.row.D.Denot g.row.T.Denot). BarredBy k None) (sym c.self.view_is) c.in_default.ensures in
+    let entry_is : c.put-2.result ≡ entry_of c.args.caller (put_call (upload_of c.args.ready) c.args.moment) (λ asset. reply.Stored asset) c.stored-reply.result.1 =
+    c.put-2.ensures ∙ ap (λ (r : Reply). record { caller = c.args.caller; call = put_call (upload_of c.args.ready) c.args.moment; reply = r }) c.stored-reply.ensures.reply in
+    called_done on ask old c.note.new.self c.stored-reply.result.1 c.put-2.result (λ (kept : Kept). kept.asset) did.result c.len.result
+    (answers_as (λ (kept : Kept). kept.asset) asset_of (λ kept. refl) (λ why. refl) did.result c.answer_of.result c.stored-reply.result.1 c.answer_of.ensures c.stored-reply.ensures.answer) free c.len.ensures
+    did.new.disk did.new.table did.new.own core.holds.items c.cause_of-cause.result c.note.ensures c.cause_of-cause.ensures (ap (λ (e : Entry). e ∷ []) entry_is)
+    (worked_by on ask (config_of core.config) (parts_of old) (parts_of left) did.result (λ told some may. at.crash told some may.0 may.1) at.durable at.stays (λ told some may. at.rest told some may.0) at.table at.keeps at.clean_files at.clean_moments at.clean_rows at.clean_own (λ broke. inl (at.shown broke)) at.unshown at.lasting at.disk_cause at.keeper_cause)
+    (λ told some may s a.
+    let asked = put_call (upload_of c.args.ready) c.args.moment in
+    let next = next_at (config_of core.config) (length core.journal.entries) c.args.caller s c.args.ready.store asked (λ kept. reply.Stored kept.asset) (StandFor on (config_of core.config) (parts_of left)) did.result
+    c.answer_of.result c.cause_of-cause.result c.len.result c.answer_of.ensures c.cause_of-cause.ensures c.len.ensures refl a.sound (λ t stands. stands.sound) (at.ends told some may.0 may.1 s a) in
+    let said : record { caller = c.args.caller; call = asked; reply = reply_of (λ (kept : Kept). reply.Stored kept.asset) c.answer_of.result } ≡ c.put-2.result =
+    ap (λ (r : Reply). record { caller = c.args.caller; call = asked; reply = r }) (same_reply c.answer_of.result ∙ ap (reply_of (λ asset. reply.Stored asset)) (sym c.stored-reply.ensures.answer)) ∙ sym entry_is in
+    record {
+      state = next.new;
+      leads = (
+        subst (λ (e : Entry). Follows (config_of core.config) (length core.journal.entries) s e next.new) said next.follows,
+        refl,
+        subst (λ (e : Entry). AnswersAt (config_of core.config) s c.args.ready.store e.call e.reply next.new) said next.at,
+      );
+      broken = next.broken_is;
+      agrees = next.agree;
+    }))
 
-pub returns-clause-moves : goal.returns-clause-moves
-returns-clause-moves g c = rw (← c.self.view_is) (λ told some room may are s tracks.
+pub returns-clause-survives : goal.returns-clause-survives
+returns-clause-survives g c = rw (← c.self.view_is) (
+    let on = devices g.D.Disk g.T.Keeper in
+    let core = c.self.inside in
+    let ask = puts on g.D.Writer.Writer.content (config_of core.config) c.args.caller c.args.ready c.args.moment in
+    let did = c.put_content-done in
+    let at = did.ensures in
+    let old : CoreView g.row.D.Denot g.row.T.Denot = record { disk = core.disk; table = core.table; config = core.config; journal = core.journal; own = core.own; holds = core.holds.items; broken = core.broken } in
+    let left : CoreView g.row.D.Denot g.row.T.Denot = left_by old did.new.disk did.new.table did.new.own core.holds.items c.put-2.result c.cause_of-cause.result in
+    let free : BarredBy old None = subst (λ (k : CoreView g.row.D.Denot g.row.T.Denot). BarredBy k None) (sym c.self.view_is) c.in_default.ensures in
+    let entry_is : c.put-2.result ≡ entry_of c.args.caller (put_call (upload_of c.args.ready) c.args.moment) (λ asset. reply.Stored asset) c.stored-reply.result.1 =
+    c.put-2.ensures ∙ ap (λ (r : Reply). record { caller = c.args.caller; call = put_call (upload_of c.args.ready) c.args.moment; reply = r }) c.stored-reply.ensures.reply in
+    survives_done on ask old c.note.new.self c.stored-reply.result.1 c.put-2.result (λ (kept : Kept). kept.asset) did.result c.len.result
+    (answers_as (λ (kept : Kept). kept.asset) asset_of (λ kept. refl) (λ why. refl) did.result c.answer_of.result c.stored-reply.result.1 c.answer_of.ensures c.stored-reply.ensures.answer) free c.len.ensures
+    did.new.disk did.new.table did.new.own core.holds.items c.cause_of-cause.result c.note.ensures c.cause_of-cause.ensures (ap (λ (e : Entry). e ∷ []) entry_is)
+    (worked_by on ask (config_of core.config) (parts_of old) (parts_of left) did.result (λ told some may. at.crash told some may.0 may.1) at.durable at.stays (λ told some may. at.rest told some may.0) at.table at.keeps at.clean_files at.clean_moments at.clean_rows at.clean_own (λ broke. inl (at.shown broke)) at.unshown at.lasting at.disk_cause at.keeper_cause))
+
+pub returns-in-Some-clause-why : goal.returns-in-Some-clause-why
+returns-in-Some-clause-why g c =
+    barred_why c.args.self.now c.in-Some.why
+    (WhyNotPut (config_of c.args.self.now.config) c.args.self.now.own.last c.args.ready.begin.key c.args.moment (g.T.Keeper.found c.turn_away.new.self.table) (g.D.Disk.last_look c.turn_away.new.self.disk))
+    tt (λ cause. tt) c.in-Some.ensures
+
+pub returns-clause-why : goal.returns-clause-why
+returns-clause-why g c = rw (← c.self.view_is, c.note.ensures) (
+    let core = c.self.inside in
+    let did = c.put_content-done in
+    said_why (λ (kept : Kept). kept.asset)
+    (WhyNotPut (config_of core.config) core.own.last c.args.ready.begin.key c.args.moment (g.T.Keeper.found did.new.table) (g.D.Disk.last_look did.new.disk)) did.result c.stored-reply.result.1
+    (answers_as (λ (kept : Kept). kept.asset) asset_of (λ kept. refl) (λ why. refl) did.result c.answer_of.result c.stored-reply.result.1 c.answer_of.ensures c.stored-reply.ensures.answer) did.ensures.why)
+
+pub returns-in-Some-clause-marked : goal.returns-in-Some-clause-marked
+returns-in-Some-clause-marked g c = λ told some may are s old tracks row. tt
+
+pub returns-clause-marked : goal.returns-clause-marked
+returns-clause-marked g c = rw (← c.self.view_is, c.note.ensures) (λ told some may are s old tracks row.
     let core = c.self.inside in
     let none : core.broken ≡ None = search rules in
-    let done = c.put_content-done.result in
-    let new = c.put_content-done.new in
-    let config = config_of core.config in
-    let asked = put_call (upload_of c.args.ready) c.args.moment in
-    let agrees : State → Type 0 = Agrees config (g.D.Disk.tree new.disk) (rows_in (g.T.Keeper.table new.table)) new.own in
-    let a = tracks.agrees none in
-    let next = next_at config (length core.journal.entries) c.args.caller s c.args.ready.store asked (λ kept. reply.Stored kept.asset) agrees done
-    c.answer_of.result c.cause_of-self-inside.result c.len.result c.answer_of.ensures c.cause_of-self-inside.ensures c.len.ensures refl a.sound (λ t at. at.sound)
-    (c.put_content-done.ensures.ends told some may are s a) in
-    let said : reply_of (λ kept. reply.Stored kept.asset) c.answer_of.result ≡ reply_of (λ asset. reply.Stored asset) c.stored-reply.result.1 =
-    same_reply c.answer_of.result ∙ ap (reply_of (λ asset. reply.Stored asset)) (sym c.stored-reply.ensures.answer) in (
-      next.new,
-      (next.new, subst (λ (r : Reply). Follows config (length core.journal.entries) s (record { caller = c.args.caller; call = asked; reply = r }) next.new) said next.follows, refl),
-      record { broken = next.broken_is; agrees = next.agree },
-      subst (λ (r : Reply). AnswersAt config s c.args.ready.store asked r next.new) said next.at,
-    ))
-
-pub returns-clause-crash : goal.returns-clause-crash
-returns-clause-crash g c = rw (← c.self.view_is) (λ told some may are s tracks sound settled. c.put_content-done.ensures.crash told some may are s (tracks.agrees sound) settled)
-
-pub returns-clause-durable : goal.returns-clause-durable
-returns-clause-durable g c = rw (← c.self.view_is) (λ told none settled.
-    c.put_content-done.ensures.durable told (not_broke c.len.result c.put_content-done.result c.cause_of-self-inside.result c.cause_of-self-inside.ensures none) settled)
-
-pub returns-clause-clean_files : goal.returns-clause-clean_files
-returns-clause-clean_files g c = rw (← c.self.view_is) (λ told none.
-    if_refused (Same (g.D.Disk.tree c.self.inside.disk) (g.D.Disk.tree c.put_content-done.new.disk)) c.len.result c.put_content-done.result c.answer_of.result c.stored-reply.result.1 c.cause_of-self-inside.result
-    c.stored-reply.ensures.answer c.answer_of.ensures c.cause_of-self-inside.ensures none (λ denied. c.put_content-done.ensures.clean_files told denied))
-
-pub returns-clause-clean_rows : goal.returns-clause-clean_rows
-returns-clause-clean_rows g c = rw (← c.self.view_is)
-    (tells_map (λ s t. is_denied c.put_content-done.result ≡ true → t ≡ s) (λ s t. c.cause_of-self-inside.result ≡ None → OnErr c.stored-reply.result.1 (t ≡ s))
-    (g.T.Keeper.table c.self.inside.table) (g.T.Keeper.table c.put_content-done.new.table)
-    (λ s t same none. if_refused (t ≡ s) c.len.result c.put_content-done.result c.answer_of.result c.stored-reply.result.1 c.cause_of-self-inside.result
-    c.stored-reply.ensures.answer c.answer_of.ensures c.cause_of-self-inside.ensures none same)
-    c.put_content-done.ensures.clean_rows)
-
-pub returns-clause-taken : goal.returns-clause-taken
-returns-clause-taken g c = λ id said. c.put_content-done.ensures.taken id (if_taken c.put_content-done.result c.answer_of.result c.stored-reply.result.1 id c.stored-reply.ensures.answer c.answer_of.ensures said)
-
-pub returns-in-Some-clause-broken_files : goal.returns-in-Some-clause-broken_files
-returns-in-Some-clause-broken_files g c = rw (← c.self.view_is) (λ told some.
-    let disk = c.self.inside.disk in
-    let clock = g.D.Disk.clock in
-    let lists = g.D.Disk.lists in
-    still_same clock lists disk disk c.discard-in-Some.new.self (nothing_ran clock lists disk) (c.discard-in-Some.ensures.time told) (c.discard-in-Some.ensures.crash told))
-
-pub returns-then-is_full-clause-stays : goal.returns-then-is_full-clause-stays
-returns-then-is_full-clause-stays g c = rw (← c.self.view_is) (λ told none. stay_same (g.D.Disk.tree c.self.inside.disk) (g.D.Disk.tree c.discard.new.self) (c.discard.ensures.tree told))
-
-pub returns-clause-stays : goal.returns-clause-stays
-returns-clause-stays g c = rw (← c.self.view_is) (λ told none. c.put_content-done.ensures.stays told)
-
-pub returns-clause-broke_disk : goal.returns-clause-broke_disk
-returns-clause-broke_disk g c = rw (← c.self.view_is) (λ cause none broke what.
-    broke_disk c.put_content-done.result c.len.result c.cause_of-self-inside.result c.cause_of-self-inside.ensures cause broke
-    (g.D.Disk.faults c.self.inside.disk) (g.D.Disk.faults c.put_content-done.new.disk) c.put_content-done.ensures.disk_cause what)
-
-pub returns-clause-broke_keeper : goal.returns-clause-broke_keeper
-returns-clause-broke_keeper g c = rw (← c.self.view_is) (λ cause none broke what.
-    broke_keeper c.put_content-done.result c.len.result c.cause_of-self-inside.result c.cause_of-self-inside.ensures cause broke
-    (g.T.Keeper.faults c.self.inside.table) (g.T.Keeper.faults c.put_content-done.new.table) c.put_content-done.ensures.keeper_cause what)
-
-pub returns-clause-number : goal.returns-clause-number
-returns-clause-number g c = rw (← c.self.view_is) (λ cause none broke. broke_number c.put_content-done.result c.len.result c.cause_of-self-inside.result c.cause_of-self-inside.ensures cause broke ∙ c.len.ensures)
+    let did = c.put_content-done in
+    on_ok_said (λ (kept : Kept). kept.asset) _ did.result c.stored-reply.result.1
+    (answers_as (λ (kept : Kept). kept.asset) asset_of (λ kept. refl) (λ why. refl) did.result c.answer_of.result c.stored-reply.result.1 c.answer_of.ensures c.stored-reply.ensures.answer)
+    (did.ensures.marked told some may are s old (tracks.agrees none) row))

@@ -1,24 +1,16 @@
-use Rattle.std.proofs.Common.{refl}
-use Rattle.disk_model.proofs.Images.{settled_same}
-use Rattle.repo_model.specs.Plain.{config_of}
-use Rattle.repo_core.specs.Rows.{rows_in}
-use Rattle.repo_core.proofs.Givings.{agrees_same}
+use Rattle.std.proofs.Common.{subst}
+use Rattle.disk_model.specs.Disk.{TakesBack}
+use Rattle.repo_core.specs.Devices.{devices}
+use Rattle.repo_core.proofs.Returnings.{gave_back}
+use Rattle.repo_core.proofs.Runs.{nothing_ran, still_same}
 use Rattle.repo_core.proofs.repository.Core.end_upload.Goals as goal
 
-pub returns-clause-durable : goal.returns-clause-durable
-returns-clause-durable g c = rw (← c.self.view_is) (λ told settled.
-    let clock = g.D.Disk.clock in
-    let lists = g.D.Disk.lists in
-    let old = c.self.inside.disk in
-    let new = c.give_up.new.self in
-    settled_same (g.D.Disk.tree old) (g.D.Disk.tree new) (lists old (clock old)) (lists new (clock new)) settled (c.give_up.ensures.tree told) (c.give_up.ensures.crash told))
-
-pub returns-clause-stands : goal.returns-clause-stands
-returns-clause-stands g c = rw (← c.self.view_is) (λ told s tracks.
+pub returns-clause-back : goal.returns-clause-back
+returns-clause-back g c = rw (← c.self.view_is) (
+    let on = devices g.D.Disk g.T.Keeper in
     let core = c.self.inside in
-    let tree = g.D.Disk.tree in
-    let rows = rows_in (g.T.Keeper.table core.table) in
-    record {
-      broken = tracks.broken;
-      agrees = λ none. agrees_same (config_of core.config) (tree core.disk) (tree c.give_up.new.self) rows rows core.own core.own s (c.give_up.ensures.tree told) refl refl (tracks.agrees none);
-    })
+    let old = core.disk in
+    let new = c.give_up.new.self in
+    let back = c.give_up.ensures in
+    gave_back on (record { disk = old; table = core.table; config = core.config; journal = core.journal; own = core.own; holds = core.holds.items; broken = core.broken }) new core.holds.items _
+    (record { files = back.tree; moments = λ told. still_same on.clock on.lists old old new (nothing_ran on.clock on.lists old) (back.time told) (back.crash told); shown = back.shown }) (subst (λ (p : g.row.D-Writer.Denot). TakesBack (on.disk_faults old) (on.disk_faults new) (g.D.Writer.Writer.faults p)) c.into_writer.ensures back.cause) back.look)

@@ -1,7 +1,5 @@
--- What the calls of a core are to a session.
-use Rattle.std.proofs.Common.{◌≡◌, ◌≢◌, inl, inr, ℕ, ◌≤◌, false, List, [], ◌∷◌, ◌++◌, length, IsSome, IfOk, IfErr, OnErr, Option, Some, None, Result, Ok, Err, refl, sym, ◌∙◌, ap, subst, arith, append-nil}
-use Rattle.std.proofs.lemmas.Bool.{cases_lt}
-use Rattle.nx_io.specs.Causes.{HasCauseWhere, Rose}
+-- For what a core stands behind a call, with the contents of its blobs.
+use Rattle.std.proofs.Common.{◌≡◌, ◌≢◌, inl, inr, ℕ, ◌≤◌, false, List, [], ◌∷◌, ◌++◌, length, IfOk, Option, Some, None, Result, Ok, Err, refl, sym, ◌∙◌, ap, subst, arith, append-nil}
 use Rattle.nx_base.specs.declared.asset.Asset.{Asset}
 use Rattle.nx_base.specs.declared.blob_ref.BlobRef.{BlobRef}
 use Rattle.disk_model.specs.Disk.{Tree, Same}
@@ -9,10 +7,7 @@ use Rattle.tree_content.specs.Blobs.{bytes_name}
 use Rattle.repo_model.specs.declared.call.Call.{Call}
 use Rattle.repo_model.specs.declared.entry.Entry.{Entry}
 use Rattle.repo_model.specs.declared.reply.Cause.{Cause}
-use Rattle.repo_model.specs.declared.reply.Fault.{Fault}
-use Rattle.repo_model.specs.declared.reply.Fault.TheVariants as fault
 use Rattle.repo_model.specs.declared.reply.Refusal.{Refusal}
-use Rattle.repo_model.specs.declared.reply.Refusal.TheVariants as refusal
 use Rattle.repo_model.specs.declared.reply.Reply.{Reply}
 use Rattle.repo_model.specs.declared.reply.Reply.TheVariants as reply
 use Rattle.repo_model.specs.Config.{Config}
@@ -24,19 +19,15 @@ use Rattle.http_front.specs.Served.{Has}
 use Rattle.http_front.specs.TurnLaws.{ends_upload}
 use Rattle.http_front.specs.Turns.{FollowsAt}
 use Rattle.http_front.proofs.OneOutcome.{follows_at}
-use Rattle.repo_core.specs.declared.hold.Hold.{Hold}
 use Rattle.repo_core.specs.View.{CoreView}
 use Rattle.repo_core.specs.Agree.{FilesAgree}
-use Rattle.repo_core.specs.Answers.{IsFull, HasRoom, with_entry, reply_of, entry_of}
-use Rattle.repo_core.specs.Faults.{IsDisk, IsKeeper, RefusedBy}
+use Rattle.repo_core.specs.Answers.{entry_of, reply_of}
+use Rattle.repo_core.specs.Devices.{Devices}
 use Rattle.repo_core.specs.Standing.{Tracks, Moves, MovesAt}
 use Rattle.repo_core.specs.Stays.{BytesStay}
 use Rattle.repo_core.proofs.Samenesses.{files_same}
 use Rattle.repo_core.proofs.Stays.{stay_same}
-use Rattle.repo_session.specs.Devices.{Devices}
 use Rattle.repo_session.specs.Standing.{IsHeld, AreHeld, Stands}
-use Rattle.repo_session.specs.Resting.{Rests}
-use Rattle.repo_session.specs.Called.{Since, HasDeviceCause, Called}
 use Rattle.repo_session.proofs.Held.{row_reads, row_held, joined, has_before, new_held}
 use Rattle.repo_session.proofs.Leading.{IsAsked, Leads, leads_of, follows_store}
 
@@ -46,30 +37,6 @@ held_same config tree new s contents a same held = λ key asset row.
     let at = row_reads config tree s key asset a row in
     let was = held key asset row in
     record { there = was.there; file = stay_same tree new same asset.blob at.0 at.1 ∙ was.file }
-
--- a reply that doesn't refuse tells of no device
-abbrev pub IsNoRefusal : Reply → Type 0
-IsNoRefusal said = (said ≢ reply.Refused refusal.DiskFault) × (said ≢ reply.Refused refusal.KeeperFault)
-
-refusal_is : (a b : Refusal) → reply.Refused a ≡ reply.Refused b → a ≡ b
-refusal_is a b e = cc
-
--- a refusal by that device has its cause
-caused : {A : Type 0} (Is : Fault → Type 0) (why : Refusal) (Cause : Type 0) (says : A → Reply) (result : Result A Refusal) → RefusedBy Is why
-    → ((value : A) → says value ≢ reply.Refused why) → IfErr result (λ e. RefusedBy Is e → Cause) → reply_of says result ≡ reply.Refused why → Cause
-caused Is why Cause says (Ok value) by never failed is = absurd (never value is)
-caused Is why Cause says (Err other) by never failed is = failed (subst (λ (r : Refusal). RefusedBy Is r) (sym (refusal_is other why is)) by)
-
--- a fact of a refusal, of one that is known
-pub on_refusal : {A : Type 0} (P : Type 0) (result : Result A Refusal) (why : Refusal) → result ≡ Err why → OnErr result P → P
-on_refusal P (Ok value) why is holds = cc
-on_refusal P (Err other) why is holds = holds
-
--- an answer that stores nothing
-pub stores_nothing : {A : Type 0} (says : A → Reply) (result : Result A Refusal) → ((value : A) (made : Asset) → says value ≢ reply.Stored made)
-    → (made : Asset) → reply_of says result ≢ reply.Stored made
-stores_nothing says (Ok value) never made is = never value made is
-stores_nothing says (Err why) never made is = cc
 
 module _ {D T : Type 0} (devices : Devices D T) where
   -- a core with such files, that is the same else but for who holds what, stands for the same
@@ -97,16 +64,6 @@ module _ {D T : Type 0} (devices : Devices D T) where
             held_same (config_of old.config) (devices.tree old.disk) (devices.tree new.disk) s contents (stands.tracks.agrees none).files (same (broken ∙ none)) (stands.held none);
         older = stands.older;
       })
-
-  pub rests : (old new : CoreView D T) (holds : List (Option Hold)) → new ≡ record old { disk = new.disk; holds = holds }
-      → devices.disk_faults old.disk ≤ devices.disk_faults new.disk → (devices.told → Same (devices.tree old.disk) (devices.tree new.disk)) → Rests devices old new
-  rests old new holds is later same =
-      let all : new ≡ record old { disk = new.disk; holds = new.holds } = λ i. record (is i) { holds = new.holds } in
-      record {
-        same = all;
-        later = later;
-        stands = λ told s contents stands. stands_same old new s contents all (λ none. same told) stands;
-      }
 
   -- a core that isn't broken wasn't, if of a broken one all but journal and disk stays
   pub was_sound : (old new : CoreView D T) → ((cause : Cause) → old.broken ≡ Some cause → new ≡ record old { disk = new.disk; journal = new.journal }) → new.broken ≡ None → old.broken ≡ None
@@ -206,56 +163,3 @@ module _ {D T : Type 0} (devices : Devices D T) where
         follows_store config number s entry t store asked here at,
         stands_plain old new s t contents (reply.Refused why) stands tracks (leads_of config number s entry t asked here) back stays (λ made is. cc),
       )
-
-  -- What a call of the core tells is one call of a session.
-  pub called : {A : Type 0} (old new : CoreView D T) (c : Call) (store : List ℕ) (says : A → Reply) (result : Result A Refusal) (after : Contents → Contents)
-      → ((value : A) → IsNoRefusal (says value))
-      → (IsFull old.journal → (result ≡ Err refusal.JournalFull) × (new ≡ record old { disk = new.disk }))
-      → (HasRoom old.journal → new.journal ≡ with_entry old.journal (entry_of 0 c says result))
-      → new.config ≡ old.config
-      → (IsSome (devices.table new.table) → IsSome (devices.table old.table))
-      → (HasRoom old.journal → (cause : Cause) → old.broken ≡ Some cause → new.broken ≡ old.broken)
-      → HasCauseWhere (RefusedBy IsDisk) (devices.disk_faults old.disk) (devices.disk_faults new.disk) result
-      → HasCauseWhere (RefusedBy IsKeeper) (devices.keeper_faults old.table) (devices.keeper_faults new.table) result
-      → ((cause : Cause) → old.broken ≡ None → new.broken ≡ Some cause → cause.fault ≡ fault.Disk → Rose (devices.disk_faults old.disk) (devices.disk_faults new.disk))
-      → ((cause : Cause) → old.broken ≡ None → new.broken ≡ Some cause → cause.fault ≡ fault.Keeper → Rose (devices.keeper_faults old.table) (devices.keeper_faults new.table))
-      → (devices.told → result ≡ Err refusal.JournalFull → new ≡ record old { disk = new.disk } → (s : State) (contents : Contents) → Stands devices old s contents → Stands devices new s (after contents))
-      → (devices.told → IsSome (devices.table new.table) → HasRoom old.journal → (s : State) (contents : Contents) → Stands devices old s contents
-      → (next : State) × FollowsAt (config_of old.config) (length old.journal.entries) s store (entry_of 0 c says result) next × Stands devices new next (after contents))
-      → Called devices old new c store (reply_of says result) after
-  called {A} old new c store says result after never at_full with_room config tells stays disk keeper broke_disk broke_keeper full room =
-      let cause : HasDeviceCause devices old new (reply_of says result) = record {
-        disk = caused IsDisk refusal.DiskFault (Rose (devices.disk_faults old.disk) (devices.disk_faults new.disk)) says result tt (λ v. (never v).0) disk.failed;
-        keeper = caused IsKeeper refusal.KeeperFault (Rose (devices.keeper_faults old.table) (devices.keeper_faults new.table)) says result tt (λ v. (never v).1) keeper.failed;
-      } in
-      let since : (entries : List Entry) → new.journal ≡ record old.journal { entries = old.journal.entries ++ entries } → ((cause : Cause) → old.broken ≡ Some cause → new.broken ≡ old.broken)
-      → Since devices old new entries = λ entries journal stays. record {
-        journal = journal;
-        config = config;
-        tells = tells;
-        disk_later = disk.later;
-        keeper_later = keeper.later;
-        broken = λ cause is. stays cause is ∙ is;
-        disk_broke = broke_disk;
-        keeper_broke = broke_keeper;
-      } in
-      elim (cases_lt (length old.journal.entries) old.journal.room) [
-        | inl fits ↦ record {
-          entries = entry_of 0 c says result ∷ [];
-          made = inl (fits, refl);
-          since = since (entry_of 0 c says result ∷ []) (with_room fits) (stays fits);
-          cause = cause;
-          leads = λ told some s contents stands. let next = room told some fits s contents stands in (next.0, (next.1, refl), next.2);
-        }
-        | inr none ↦
-            let all = at_full none in
-            let journal : new.journal ≡ record old.journal { entries = old.journal.entries ++ [] } =
-            ap (λ (core : CoreView D T). core.journal) all.1 ∙ ap (λ (l : List Entry). record old.journal { entries = l }) (sym (append-nil old.journal.entries)) in
-            record {
-              entries = [];
-              made = inr (none, refl, ap (λ (r : Result A Refusal). reply_of says r) all.0);
-              since = since [] journal (λ cause is. ap (λ (core : CoreView D T). core.broken) all.1);
-              cause = cause;
-              leads = λ told some s contents stands. (s, refl, full told all.0 all.1 s contents stands);
-            }
-      ]

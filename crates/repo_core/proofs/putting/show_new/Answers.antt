@@ -1,0 +1,19 @@
+use Rattle.std.proofs.Common.{◌≡◌, ◌⊎◌, inl, refl, Ok, Err}
+use Rattle.asset_keeper.specs.Table.{changed}
+use Rattle.asset_keeper.specs.Told.{LeavesChange}
+use Rattle.repo_core.proofs.Answering.{tells_map}
+use Rattle.repo_core.proofs.Rests.{leaves_one, tells_still}
+use Rattle.repo_core.proofs.putting.show_new.Goals as goal
+
+pub returns-in-Err-clause-table : goal.returns-in-Err-clause-table
+returns-in-Err-clause-table g c = tells_still (λ s t. (t ≡ s) ⊎ (t ≡ changed s c.args.new.now.change)) (λ t. inl refl) (g.T.Keeper.table c.args.table.now)
+
+pub returns-in-Ok-clause-table : goal.returns-in-Ok-clause-table
+returns-in-Ok-clause-table g c =
+    tells_map (λ s t. LeavesChange s t c.args.new.now.change (Ok tt)) (λ s t. (t ≡ s) ⊎ (t ≡ changed s c.args.new.now.change)) (g.T.Keeper.table c.args.table.now) (g.T.Keeper.table c.apply.new.self)
+    (λ s t leaves. leaves_one c.args.new.now.change s t (Ok tt) leaves) c.in-Ok.ensures.told
+
+pub returns-in-Err-apply-clause-table : goal.returns-in-Err-apply-clause-table
+returns-in-Err-apply-clause-table g c =
+    tells_map (λ s t. LeavesChange s t c.args.new.now.change (Err c.in-Err-apply.refusal)) (λ s t. (t ≡ s) ⊎ (t ≡ changed s c.args.new.now.change)) (g.T.Keeper.table c.args.table.now) (g.T.Keeper.table c.apply.new.self)
+    (λ s t leaves. leaves_one c.args.new.now.change s t (Err c.in-Err-apply.refusal) leaves) c.in-Err-apply.ensures.told
