@@ -16,8 +16,6 @@ mod files;
 mod hash;
 mod laws;
 mod place;
-#[cfg(test)]
-mod tests;
 
 pub use ending::Ending;
 pub use files::BlobFiles;

@@ -188,19 +188,6 @@ unfolding readable_of
 is_readable text pairs props reads says room =
     ap from_pairs reads ∙ ap if_room says ∙ ap (λ (b : Bool). cond b (Some props) None) (room-test props room)
 
--- there is none without room
-pub no_room : (text : List ℕ) (pairs : Entries) (props : Props) → Reads text pairs → props_of pairs ≡ Ok props → (HasRoom props → ⊥) → readable_of text ≡ None
-unfolding readable_of
-no_room text pairs props reads says small =
-    ap from_pairs reads ∙ ap if_room says ∙ by_test (has_room props) refl where
-      by_test : (b : Bool) → has_room props ≡ b → cond b (Some props) None ≡ None
-      by_test true h = absurd (small (test-room props h))
-      by_test false h = refl
-
-pub bad_pairs : (text : List ℕ) (pairs : Entries) (e : Refusal) → Reads text pairs → props_of pairs ≡ Err e → readable_of text ≡ None
-unfolding readable_of
-bad_pairs text pairs e reads says = ap from_pairs reads ∙ ap if_room says
-
 pub bad_text : (text : List ℕ) (e : PropsErr) → reading text ≡ Err e → readable_of text ≡ None
 unfolding readable_of
 bad_text text e refused = ap from_pairs refused
@@ -257,23 +244,9 @@ unmark-props props is = record {
   in_range = (is.in_range.0, is.in_range.1, tt, is.in_range.3);
 }
 
--- the test that the code makes is that of the definition
-pub room-same : (b : Bool) (props : Props) → (b ≡ true → HasRoom props) → (HasRoom props → b ≡ true) → b ≡ has_room props
-room-same b props to from = by_tests b (has_room props) (λ h. room-test props (to h)) (λ h. from (test-room props h)) where
-  by_tests : (a c : Bool) → (a ≡ true → c ≡ true) → (c ≡ true → a ≡ true) → a ≡ c
-  by_tests true c f g = sym (f refl)
-  by_tests false true f g = g refl
-  by_tests false false f g = refl
-
 -- properties that were read, by the test of their room
 pub by_room : (b : Bool) (props : Props) → b ≡ has_room props → cond b (Some props) None ≡ if_room (Ok props)
 by_room b props e = ap (λ (x : Bool). cond x (Some props) None) e
-
--- a refusal that isn't want of memory is one of the definition
-pub bad_room : (wanted : Result Props Refusal) (e : BlobPropsErr) → Gives wanted (Err e) → (e ≡ NoMemory → ⊥) → None ≡ if_room wanted
-bad_room wanted (Missing key) h other = sym (ap if_room h)
-bad_room wanted (BadValue key) h other = sym (ap if_room h)
-bad_room wanted NoMemory h other = absurd (other refl)
 
 -- a text that is read says what its pairs say
 pub readable-pairs : (text : List ℕ) (pairs : Entries) → Reads text pairs → readable_of text ≡ if_room (props_of pairs)

@@ -51,11 +51,6 @@ written-put_new key v (p ∷ e) h = by_order (text_cmp key p.0) h (written-put_n
 
 -- ---- the pairs of other keys
 
--- what is kept of a first pair
-pub others-cons : (p : List ℕ × List ℕ) (e : Entries) → others_of (p ∷ e) ≡ cond (not (is_own_key p.0)) (p ∷ others_of e) (others_of e)
-unfolding others_of
-others-cons p e = refl
-
 pub others-put : (key v : List ℕ) (e : Entries) → is_own_key key ≡ true → others_of (put key v e) ≡ others_of e
 unfolding put others_of
 others-put key v [] own = rw own refl

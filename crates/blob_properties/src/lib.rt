@@ -24,8 +24,6 @@ mod props_read;
 mod reading;
 mod reason;
 mod required;
-#[cfg(test)]
-mod tests;
 mod texts;
 mod to_pairs_err;
 mod values;

@@ -10,12 +10,9 @@ ghost use Rattle.blob_properties.specs.ToPairs.{plain_entries, marked_entries, e
 use crate::blob_props::BlobProps;
 use crate::own_keys;
 use crate::to_pairs_err::ToPairsErr;
-use java_props::{Pairs, SetErr};
+use java_props::{MOST_PAIRS, Pairs, SetErr};
 use nx_base::NoMemory;
 use std::alloc::Global;
-
-/// The most pairs of a text.
-const MOST_PAIRS: usize = 256;
 
 /// How many pairs there are beside the other ones, without a mark and with one.
 const PLAIN_PAIRS: usize = 6;
@@ -23,12 +20,12 @@ const PLAIN_PAIRS: usize = 6;
 const MARKED_PAIRS: usize = 9;
 
 /// Sets the value of a key, where there is room for one more.
-pub fn put(alloc: Global, pairs: &mut Pairs, key: &str, value: &str) -> Result<(), NoMemory>
+pub fn put(pairs: &mut Pairs, key: &str, value: &str) -> Result<(), NoMemory>
     requires { length pairs.old < 256 }
     ensures set { OnOk result (pairs.new ≡ put key.now value.now pairs.old) }
     ensures room { length pairs.new ≤ length pairs.old + 1 }
 {
-    match pairs.set(alloc, key, value) {
+    match pairs.set(key, value) {
         Ok(()) => Ok(()),
         Err(SetErr::NoMemory) => Err(NoMemory),
         Err(SetErr::Full) => unreachable!(),
@@ -44,7 +41,7 @@ fn copied(alloc: Global, pairs: &Pairs) -> Result<Pairs, NoMemory>
         let Some((key, value)) = pairs.pair(at) else {
             unreachable!();
         };
-        put(alloc, &mut copy, key, value)?;
+        put(&mut copy, key, value)?;
     }
     Ok(copy)
 }
@@ -83,29 +80,28 @@ pub fn plain_pairs(alloc: Global, props: &BlobProps) -> Result<Pairs, NoMemory>
     let sha1 = sha1_text(alloc, props.sha1)?;
     let size = number_text(alloc, props.size)?;
     let mut pairs = copied(alloc, &props.others)?;
-    put(alloc, &mut pairs, own_keys::PATH, props.key.path.as_str())?;
+    put(&mut pairs, own_keys::PATH, props.key.path.as_str())?;
     put(
-        alloc,
         &mut pairs,
         own_keys::CONTENT_TYPE,
         props.content_type.as_str(),
     )?;
-    put(alloc, &mut pairs, own_keys::REPO, props.key.repo.as_str())?;
-    put(alloc, &mut pairs, own_keys::STAMP, stamp.as_str())?;
-    put(alloc, &mut pairs, own_keys::SHA1, sha1.as_str())?;
-    put(alloc, &mut pairs, own_keys::SIZE, size.as_str())?;
+    put(&mut pairs, own_keys::REPO, props.key.repo.as_str())?;
+    put(&mut pairs, own_keys::STAMP, stamp.as_str())?;
+    put(&mut pairs, own_keys::SHA1, sha1.as_str())?;
+    put(&mut pairs, own_keys::SIZE, size.as_str())?;
     Ok(pairs)
 }
 
 /// Sets the three pairs of a mark.
 #[tactic(auto, unfolding(crate::specs::ToPairs::marked_entries))]
-pub fn put_mark(alloc: Global, pairs: &mut Pairs, date: &str, reason: &str) -> Result<(), NoMemory>
+pub fn put_mark(pairs: &mut Pairs, date: &str, reason: &str) -> Result<(), NoMemory>
     requires { length pairs.old + 3 ≤ 256 }
     ensures { OnOk result (pairs.new ≡ marked_entries date.now reason.now pairs.old) }
 {
-    put(alloc, pairs, own_keys::DELETED, "true")?;
-    put(alloc, pairs, own_keys::DATE, date)?;
-    put(alloc, pairs, own_keys::REASON, reason)
+    put(pairs, own_keys::DELETED, "true")?;
+    put(pairs, own_keys::DATE, date)?;
+    put(pairs, own_keys::REASON, reason)
 }
 
 /// How many pairs there are beside the other ones.
@@ -128,7 +124,7 @@ fn all_pairs(alloc: Global, props: &BlobProps) -> Result<Pairs, NoMemory>
     let mut pairs = plain_pairs(alloc, props)?;
     if let Some(deleted) = &props.deleted {
         let date = number_text(alloc, deleted.at)?;
-        put_mark(alloc, &mut pairs, date.as_str(), deleted.reason.as_str())?;
+        put_mark(&mut pairs, date.as_str(), deleted.reason.as_str())?;
     }
     Ok(pairs)
 }

@@ -10,12 +10,9 @@ use crate::blob_props_err::BlobPropsErr;
 use crate::props_read::PropsRead;
 use crate::required::of_pairs;
 use crate::texts::{MOST_OTHERS, marked_pairs, written_text};
-use java_props::{Pairs, PropsErr};
+use java_props::{LONGEST, Pairs, PropsErr};
 use nx_base::NoMemory;
 use std::alloc::Global;
-
-/// The most bytes of a text that can be read.
-const LONGEST: usize = 65536;
 
 /// A time of 15 digits, and a reason of 100 bytes.
 const DATE: &str = "999999999999999";

@@ -152,14 +152,14 @@ fn mark(alloc: Global, pairs: &Pairs) -> Result<Option<Deleted>, NoMemory>
 }
 
 /// Sets the value of a key, unless it is one of the nine.
-fn put_other(alloc: Global, others: &mut Pairs, key: &str, value: &str) -> Result<(), NoMemory>
+fn put_other(others: &mut Pairs, key: &str, value: &str) -> Result<(), NoMemory>
     requires { length others.old < 256 }
     ensures { OnOk result (others.new ≡ (if is_own_key key.now then others.old else put key.now value.now others.old)) }
 {
     if own_keys::is_own_key(key) {
         return Ok(());
     }
-    put(alloc, others, key, value)
+    put(others, key, value)
 }
 
 /// The pairs of the keys that have no meaning.
@@ -172,7 +172,7 @@ fn others(alloc: Global, pairs: &Pairs) -> Result<Pairs, NoMemory>
         let Some((key, value)) = pairs.pair(at) else {
             unreachable!();
         };
-        put_other(alloc, &mut others, key, value)?;
+        put_other(&mut others, key, value)?;
     }
     Ok(others)
 }

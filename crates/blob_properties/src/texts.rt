@@ -43,7 +43,7 @@ pub fn marked_pairs(
     ensures blob { IfOk result (λ _. IsProps props.now) }
 {
     let mut pairs = plain_pairs(alloc, props)?;
-    put_mark(alloc, &mut pairs, date, reason)?;
+    put_mark(&mut pairs, date, reason)?;
     Ok(pairs)
 }
 

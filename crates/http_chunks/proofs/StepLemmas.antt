@@ -19,11 +19,6 @@ place_of chunks place text content is took = subst (λ (p : Place). ReachesWith 
 pub total_of : (chunks : Chunks) (place : Place) (text content : List ℕ) → chunks.place ≡ place → Took chunks text content → chunks.total ≡ length content + left_at place
 total_of chunks place text content is took = took.total ∙ ap (λ (p : Place). length content + left_at p) is
 
-pub refused_at : (place : Place) (text content bytes : List ℕ) (at back : ℕ) → ReachesWith place text content → IsBad place bytes back → at + back ≡ length text
-    → Holds (text ++ bytes) (bad content at)
-refused_at place text content bytes at back reached is_bad e =
-    (place, bytes, back, record { front = text; parts = refl; reached = reached }, is_bad, omega (arith, e, length-append text bytes))
-
 pub large_at : (text content bytes rest : List ℕ) (line : ChunkLine) → AreChunks text content → HasLine bytes line rest → content_limit < length content + chunk_size line
     → Holds (text ++ bytes) (large content)
 large_at text content bytes rest line chunks has over = (Line, bytes, record { front = text; parts = refl; reached = chunks }, (line, rest, has, over))

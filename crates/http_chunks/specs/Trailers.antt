@@ -31,12 +31,13 @@ lines_of lines = flat_map (λ line. line ++ crlf_bytes) lines
 abbrev pub IsBare : List ℕ → ℕ → Type 0
 IsBare bytes k = (k ≡ 0) ⊎ (slice_index bytes (k - 1) ≢ carriage_return)
 
--- Behind so many bytes of lines a line stands that may not: it ends in a bare line feed, or beyond the limit.
+-- Behind so many bytes of lines a line stands that may not: it ends in a bare line feed, or no line can end within the limit
+-- any more.
 abbrev pub IsBadTrailer : ℕ → List ℕ → Type 0
 IsBadTrailer taken bytes =
     ((k : ℕ) × IsFirstFeed bytes k × IsBare bytes k)
-    ⊎ ((trailer_limit < taken + length bytes) × HasNoFeed (trailer_limit - taken) bytes)
+    ⊎ ((trailer_limit ≤ taken + length bytes) × HasNoFeed (trailer_limit - taken) bytes)
 
--- behind so many bytes of lines, a proper beginning of a line that may stand there
+-- behind so many bytes of lines, a proper beginning of a line, below the limit
 abbrev pub IsOpenTrailer : ℕ → List ℕ → Type 0
-IsOpenTrailer taken bytes = HasNoFeed (length bytes) bytes × (taken + length bytes ≤ trailer_limit)
+IsOpenTrailer taken bytes = HasNoFeed (length bytes) bytes × (taken + length bytes < trailer_limit)

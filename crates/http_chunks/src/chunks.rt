@@ -128,7 +128,7 @@ impl Chunks {
         };
         let room = TRAILER_LIMIT - taken;
         let Some(last) = first_feed(bytes) else {
-            return if bytes.len() as u64 > room {
+            return if bytes.len() as u64 >= room {
                 bad
             } else {
                 ChunkStep::Need

@@ -22,6 +22,3 @@ mod size_line;
 
 pub use chunk_step::ChunkStep;
 pub use chunks::Chunks;
-
-#[cfg(test)]
-mod tests;

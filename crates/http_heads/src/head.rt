@@ -19,7 +19,7 @@ use nx_base::{ContentType, Key};
 use std::alloc::Global;
 
 /// The most bytes of a head.
-const HEAD_LIMIT: usize = 16_384;
+pub const HEAD_LIMIT: usize = 16_384;
 
 /// What an accepted head asks for.
 #[derive(Debug, Drop)]

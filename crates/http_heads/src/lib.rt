@@ -36,11 +36,8 @@ mod words;
 pub use body_err::BodyErr;
 pub use cut::{blank_len, head_len};
 pub use framing::Framing;
-pub use head::{Head, read_head};
+pub use head::{HEAD_LIMIT, Head, read_head};
 pub use head_err::HeadErr;
 pub use method::Method;
 pub use refusal_words::RefusalWords;
 pub use response::{refusal_response, response_head};
-
-#[cfg(test)]
-mod tests;

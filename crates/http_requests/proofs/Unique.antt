@@ -16,6 +16,7 @@ use Rattle.http_requests.proofs.FirstHeads.{one_split, accepts_same, accepts_ref
 
 -- ---- one content
 
+-- a content of a length is read in one way
 length_same : (n : ℕ) (bytes : List ℕ) (a b : Reading) → HoldsLength n bytes a → HoldsLength n bytes b → a ≡ b
 length_same n bytes (readings.whole c r) (readings.whole d s) x y =
     let parts = one_split c r d s (x.0 ∙ sym y.0) (sym x.1 ∙ y.1) in
@@ -32,7 +33,8 @@ length_same n bytes (readings.whole c r) (readings.large d) x y = absurd y
 length_same n bytes (readings.cut c) (readings.bad d at) x y = absurd y
 length_same n bytes (readings.cut c) (readings.large d) x y = absurd y
 
-body_same : (framing : Framing) (bytes : List ℕ) (a b : Reading) → HoldsBody framing bytes a → HoldsBody framing bytes b → a ≡ b
+-- what follows a head is read in one way
+pub body_same : (framing : Framing) (bytes : List ℕ) (a b : Reading) → HoldsBody framing bytes a → HoldsBody framing bytes b → a ≡ b
 body_same framings.None bytes a b x y = length_same 0 bytes a b x y
 body_same (framings.Length n) bytes a b x y = length_same n bytes a b x y
 body_same framings.Chunked bytes a b x y = one_reading bytes a b x y

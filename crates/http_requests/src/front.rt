@@ -2,12 +2,9 @@ ghost use Rattle.std.specs.Prelude.{◌≤◌, IfOk, length, take};
 ghost use Rattle.http_heads.specs.Cut.{HasNoHead};
 ghost use Rattle.http_requests.specs.Fronts.{IsFront, IsWithin, Decides, HasNoFirst, IsRefusal};
 
-use http_heads::{Head, HeadErr, blank_len, head_len, read_head};
+use http_heads::{HEAD_LIMIT, Head, HeadErr, blank_len, head_len, read_head};
 use nx_base::NoMemory;
 use std::alloc::Global;
-
-/// The most bytes of a head.
-const HEAD_LIMIT: usize = 16_384;
 
 /// What stands in front of the bytes of a stream that came so far.
 #[derive(Debug, Drop)]

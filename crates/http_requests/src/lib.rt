@@ -15,6 +15,3 @@ mod laws;
 
 pub use front::{Front, read_front};
 pub use laws::one_list;
-
-#[cfg(test)]
-mod tests;

@@ -50,8 +50,6 @@ mod repo_kind;
 mod repo_name;
 mod row;
 mod store_name;
-#[cfg(test)]
-mod tests;
 mod text;
 
 pub use asset::Asset;

@@ -22,6 +22,3 @@ pub use freshness::{fresh, note_young};
 pub use holds::Holds;
 pub use notes::Notes;
 pub use write_policy::may_write;
-
-#[cfg(test)]
-mod tests;

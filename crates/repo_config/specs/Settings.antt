@@ -178,15 +178,3 @@ group_at settings name = option_map (λ store. store.group) (store_at settings n
 
 abbrev pub layout_at : Settings → List ℕ → Option Layout
 layout_at settings name = option_and_then (λ store. store.layout) (store_at settings name)
-
--- the store or the group that a repository writes to
-abbrev pub write_group : Repository → Option (List ℕ)
-write_group repo = repo.store
-
-abbrev pub members_of : Option Group → List (List ℕ)
-members_of None = []
-members_of (Some group) = map (λ member. member.store) group.members
-
--- the stores of a repository: its store, or the members of its store where that is a group
-abbrev pub stores_of : Settings → Repository → List (List ℕ)
-stores_of settings repo = members_of (option_and_then (group_at settings) (write_group repo))

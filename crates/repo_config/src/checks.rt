@@ -169,7 +169,7 @@ fn store_keys(alloc: Global, pairs: &Pairs, repos: &[&str]) -> Result<Pairs, NoM
             return Err(NoMemory);
         };
         let key = key.as_str();
-        match keys.set(alloc, key, text_at(pairs, key)) {
+        match keys.set(key, text_at(pairs, key)) {
             Ok(()) => {}
             Err(SetErr::NoMemory) => return Err(NoMemory),
             Err(SetErr::Full) => unreachable!(),

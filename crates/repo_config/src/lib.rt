@@ -39,8 +39,6 @@ mod repo;
 mod settings;
 mod store;
 mod table;
-#[cfg(test)]
-mod tests;
 mod values;
 
 pub use config::Config;

@@ -20,7 +20,8 @@ use Rattle.session_history.specs.Phases.{Phase, between, asked, beginning, insid
 use Rattle.session_history.specs.Histories.{IsHistory}
 use Rattle.session_history.specs.Requests.{alone, requests_in, BeginsWith}
 use Rattle.session_history.proofs.Goes.{Goes, of_history, accepts, refuses, holds, stops, left}
-use Rattle.session_history.proofs.Same.{body_same, whole_stop, cut_stop, no_head}
+use Rattle.http_requests.proofs.Unique.{body_same}
+use Rattle.session_history.proofs.Same.{whole_stop, cut_stop, no_head}
 use Rattle.session_history.proofs.Made.{Behind, begun_or, empty_holds, no_content, none_over}
 
 begins_none : (items : List Item) → BeginsWith items []

@@ -1,7 +1,5 @@
 -- The same bytes and the same answers make one history.
-use Rattle.std.proofs.Common.{◌≡◌, ℕ, ◌⊎◌, Bool, true, false, List, [], ◌∷◌, length, map, refl, sym, ap, subst, ◌∙◌, inl, inr, arith, length-append}
-use Rattle.http_heads.specs.declared.framing.Framing.{Framing}
-use Rattle.http_heads.specs.declared.framing.Framing.TheVariants as framings
+use Rattle.std.proofs.Common.{◌≡◌, ℕ, ◌⊎◌, Bool, true, false, List, [], ◌∷◌, map, refl, sym, ap, subst, ◌∙◌, inl, inr}
 use Rattle.http_heads.specs.declared.head.Head.{Head}
 use Rattle.http_heads.specs.declared.head_err.HeadErr.{HeadErr}
 use Rattle.http_heads.specs.declared.body_err.BodyErr.{BodyErr}
@@ -9,39 +7,17 @@ use Rattle.http_heads.specs.declared.body_err.BodyErr.TheVariants.{BadChunk, Bod
 use Rattle.http_heads.specs.Cut.{drop_blank}
 use Rattle.repo_model.specs.declared.transfer.UploadErr.{UploadErr}
 use Rattle.http_chunks.specs.Reading as readings
-use Rattle.http_chunks.specs.Reading.{Reading}
-use Rattle.http_chunks.proofs.OneReading.{one_reading}
 use Rattle.http_requests.specs.Heads.{Accepts, IsRefused, merged_cause}
-use Rattle.http_requests.specs.Bodies.{HoldsLength, HoldsBody}
+use Rattle.http_requests.specs.Bodies.{HoldsBody}
 use Rattle.http_requests.specs.Requests.{AreRequests, stop_of}
-use Rattle.http_requests.proofs.FirstHeads.{one_split, accepts_same, accepts_refused, refused_same, refused_some, refused_open, accepts_some, accepts_open}
+use Rattle.http_requests.proofs.Unique.{body_same}
+use Rattle.http_requests.proofs.FirstHeads.{accepts_same, accepts_refused, refused_same, refused_some, refused_open, accepts_some, accepts_open}
 use Rattle.session_history.specs.Marks.{Mark, refused, accepted, content, spoiled, replied, failed, broke, answers_in, merged}
 use Rattle.session_history.specs.Phases.{Phase, between, asked, beginning, inside, putting, over, after}
 use Rattle.session_history.specs.Histories.{Rests, IsHistory}
 use Rattle.session_history.proofs.Goes.{Comes, Goes, of_history, accepts, refuses, holds, stops, left}
 
 -- ---- one content
-
-length_same : (n : ℕ) (bytes : List ℕ) (a b : Reading) → HoldsLength n bytes a → HoldsLength n bytes b → a ≡ b
-length_same n bytes (readings.whole c r) (readings.whole d s) x y =
-    let parts = one_split c r d s (x.0 ∙ sym y.0) (sym x.1 ∙ y.1) in
-    let contents : c ≡ d = parts.0 in
-    let rests : r ≡ s = parts.1 in
-    cc
-length_same n bytes (readings.whole c r) (readings.cut d) x y = absurd (omega (arith, x.0, ap length x.1, length-append c r, y.0))
-length_same n bytes (readings.cut c) (readings.whole d s) x y = absurd (omega (arith, y.0, ap length y.1, length-append d s, x.0))
-length_same n bytes (readings.cut c) (readings.cut d) x y = let contents : c ≡ d = x.1 ∙ sym y.1 in cc
-length_same n bytes (readings.bad c at) b x y = absurd x
-length_same n bytes (readings.large c) b x y = absurd x
-length_same n bytes (readings.whole c r) (readings.bad d at) x y = absurd y
-length_same n bytes (readings.whole c r) (readings.large d) x y = absurd y
-length_same n bytes (readings.cut c) (readings.bad d at) x y = absurd y
-length_same n bytes (readings.cut c) (readings.large d) x y = absurd y
-
-pub body_same : (framing : Framing) (bytes : List ℕ) (a b : Reading) → HoldsBody framing bytes a → HoldsBody framing bytes b → a ≡ b
-body_same framings.None bytes a b x y = length_same 0 bytes a b x y
-body_same (framings.Length n) bytes a b x y = length_same n bytes a b x y
-body_same framings.Chunked bytes a b x y = one_reading bytes a b x y
 
 -- a refused content is neither whole nor cut, and is refused so once
 pub whole_stop : (whole rest part : List ℕ) (why : BodyErr) → readings.whole whole rest ≡ stop_of part why → ⊥

@@ -1,5 +1,5 @@
 use Rattle.std.proofs.Common.{◌≤◌, length}
-use Rattle.http_requests.proofs.tests.chunked.Given as goal
+use Rattle.worked_rows.proofs.requests.read.Given as goal
 
 abbrev pub invariant-loop : goal.invariant-loop
 invariant-loop l = l.at ≤ length l.text

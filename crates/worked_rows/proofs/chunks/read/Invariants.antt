@@ -1,5 +1,5 @@
 use Rattle.std.proofs.Common.{◌≤◌, length}
-use Rattle.http_chunks.proofs.tests.read.Given as goal
+use Rattle.worked_rows.proofs.chunks.read.Given as goal
 
 abbrev pub invariant-loop : goal.invariant-loop
 invariant-loop l = (l.taken ≤ l.there) × (l.there ≤ length l.text)
