@@ -75,11 +75,11 @@ made_is (suc more) setting m q done n s (e ∷ es) new h (mid, here, rest) (good
     let fits : n < setting.room = here.fits in
     let room : nat_le setting.room n ≡ false = grind (arith, nat_tests) in
     let went : done_by setting.config s (store_in done) e.call ≡ record { reply = e.reply; new = mid } = done_is setting.config n s (store_in done) e mid here.follows good in
-    let same : entry_of e.call (record { reply = e.reply; new = mid }) ≡ e = ap (λ (x : ℕ). record { caller = x; call = e.call; reply = e.reply }) (sym here.caller) in
+    let same : entry_of setting.caller e.call (record { reply = e.reply; new = mid }) ≡ e = ap (λ (x : ℕ). record { caller = x; call = e.call; reply = e.reply }) (sym here.caller) in
     let longer : 2 ≤ length (done ++ e ∷ []) + more = simp length-append (omega arith) in
     let put : Outcome → Entry → Made = λ (o : Outcome) (x : Entry). with_entry x (made_in more setting m q (done ++ x ∷ []) (n + 1) o.new) in
     goes (nat_le setting.room n) (next_call setting.digest m q None done) (record { entries = []; new = s })
-    (λ (c : Call). put (done_by setting.config s (store_in done) c) (entry_of c (done_by setting.config s (store_in done) c))) e.call room here.asked
-    ∙ ap (λ (o : Outcome). put o (entry_of e.call o)) went
+    (λ (c : Call). put (done_by setting.config s (store_in done) c) (entry_of setting.caller c (done_by setting.config s (store_in done) c))) e.call room here.asked
+    ∙ ap (λ (o : Outcome). put o (entry_of setting.caller e.call o)) went
     ∙ ap (put (record { reply = e.reply; new = mid })) same
     ∙ ap (with_entry e) (made_is more setting m q (done ++ e ∷ []) (n + 1) mid es new longer rest sound)

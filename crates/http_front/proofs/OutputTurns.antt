@@ -32,14 +32,14 @@ sound config s store c e = whole s.broken e where
   whole (Some cause) e = cc
 
 -- what is answered follows
-answered : (config : Config) (n : ℕ) (s : State) (store : List ℕ) (c : Call) (o : Option Outcome) → outcome config s store c ≡ o
-    → FollowsAt config n s store (entry_of c (unwrap_or o (record { reply = reply.Refused refusal.NoMemory; new = s }))) (unwrap_or o (record { reply = reply.Refused refusal.NoMemory; new = s })).new
-answered config n s store c (Some o) e = inl e
-answered config n s store c None e = inr (inl (record { what = fault.Memory; says = refl; sound = sound config s store c e; leaves = inl refl }))
+answered : (caller : ℕ) (config : Config) (n : ℕ) (s : State) (store : List ℕ) (c : Call) (o : Option Outcome) → outcome config s store c ≡ o
+    → FollowsAt config n s store (entry_of caller c (unwrap_or o (record { reply = reply.Refused refusal.NoMemory; new = s }))) (unwrap_or o (record { reply = reply.Refused refusal.NoMemory; new = s })).new
+answered caller config n s store c (Some o) e = inl e
+answered caller config n s store c None e = inr (inl (record { what = fault.Memory; says = refl; sound = sound config s store c e; leaves = inl refl }))
 
 -- the entry of a call
 abbrev entry : Setting → List Entry → State → Call → Entry
-entry setting done s c = entry_of c (done_by setting.config s (store_in done) c)
+entry setting done s c = entry_of setting.caller c (done_by setting.config s (store_in done) c)
 
 -- what is made by whether the journal is full, and by the next call
 abbrev chosen : ℕ → Setting → Moment → Item → List Entry → ℕ → State → Bool → Option Call → Made
@@ -58,7 +58,7 @@ by_tests more setting m q done n s go false None a b = (inl b, refl)
 by_tests more setting m q done n s go false (Some c) a b =
     let room : n < setting.room = grind (arith, nat_tests) in (
       (done_by setting.config s (store_in done) c).new,
-      record { asked = b; caller = refl; fits = room; follows = answered setting.config n s (store_in done) c _ refl },
+      record { asked = b; caller = refl; fits = room; follows = answered setting.caller setting.config n s (store_in done) c _ refl },
       go (entry setting done s c) (done_by setting.config s (store_in done) c).new,
     )
 
@@ -106,6 +106,6 @@ output_turns [] setting n number s k served = record {
 output_turns (q ∷ qs) setting n number s k (here, later) =
     let made : Made = made_by setting (setting.draws n) q number s in
     let t : Turn = record { request = q; stop = None; entries = made.entries } in
-    let is : IsTurn setting n number s k t made.new = record { makes = made_makes 2 setting (setting.draws n) q [] number s (omega arith); served = here } in
+    let is : IsTurn setting n number s k t made.new = record { makes = made_makes 2 setting (setting.draws n) q [] number s (omega arith); stops = tt; served = here } in
     first (answer_of k t).ends setting n number s made.new k t qs _ refl is
     (λ e. output_turns qs setting (n + 1) (number + length made.entries) made.new (contents_after t k) (later e))

@@ -20,9 +20,9 @@ use Rattle.http_front.specs.Turns.{Setting, Turn, contents_after, answer_of}
 abbrev pub done_by : Config → State → List ℕ → Call → Outcome
 done_by config state store c = unwrap_or (outcome config state store c) (record { reply = reply.Refused refusal.NoMemory; new = state })
 
--- the entry of a call. A session in `stdio` is the caller 0.
-abbrev pub entry_of : Call → Outcome → Entry
-entry_of c done = record { caller = 0; call = c; reply = done.reply }
+-- the entry of a call of that caller
+abbrev pub entry_of : ℕ → Call → Outcome → Entry
+entry_of caller c done = record { caller = caller; call = c; reply = done.reply }
 
 -- the entries that one request made, and the state behind them
 pub record Made : Type 0 where
@@ -41,7 +41,7 @@ made_in (suc more) setting moment request done number state =
     if nat_le setting.room number then nothing
     else given (next_call setting.digest moment request None done) nothing (λ c.
     let answered = done_by setting.config state (store_in done) c in
-    let entry = entry_of c answered in
+    let entry = entry_of setting.caller c answered in
     with_entry entry (made_in more setting moment request (done ++ entry ∷ []) (number + 1) answered.new))
 
 -- what a request made. No request makes more than two calls: the beginning of an upload, and what puts its content.

@@ -1,22 +1,25 @@
 -- The history of a session, request by request.
-use Rattle.std.specs.Prelude.{◌≡◌, ℕ, ◌+◌, ◌<◌, ◌≤◌, ◌⊎◌, false, List, [], ◌∷◌, ◌++◌, length, map, flat_map, Option, Some, None}
+use Rattle.std.specs.Prelude.{◌≡◌, ℕ, ◌+◌, ◌<◌, ◌≤◌, ◌⊎◌, Bool, true, false, List, [], ◌∷◌, ◌++◌, length, map, flat_map, Option, Some, None}
 use Rattle.nx_base.specs.declared.moment.Moment.{Moment}
 use Rattle.repo_model.specs.declared.entry.Entry.{Entry}
 use Rattle.repo_model.specs.Config.{Config}
 use Rattle.repo_model.specs.State.{State}
 use Rattle.repo_model.specs.Step.{outcome}
 use Rattle.repo_model.specs.History.{Fails, IsDamaged}
+use Rattle.http_heads.specs.Head.{is_put}
 use Rattle.http_requests.specs.Requests.{Item, refused, whole, stopped, cut}
 use Rattle.http_front.specs.declared.stop.Stop.{Stop}
 use Rattle.http_front.specs.declared.stop.Stop.TheVariants as stops
 use Rattle.http_front.specs.Contents.{Contents, with_content}
 use Rattle.http_front.specs.Answers.{Answer, last_reply, response_of}
+use Rattle.http_front.specs.Entries.{begins}
 use Rattle.http_front.specs.Served.{Serves}
 use Rattle.http_front.specs.Calls.{next_call, store_in}
 
--- what a session runs under: the configuration, the digest of contents (SHA-1), the moments that it draws, one for each request, by
--- number, and how many entries the journal takes
+-- what a session runs under: which caller of the repository it is, the configuration, the digest of contents (SHA-1), the moments that
+-- it draws, one for each request, by number, and how many entries the journal takes
 pub record Setting : Type 0 where
+  pub caller : ℕ
   pub config : Config
   pub digest : List ℕ → List ℕ
   pub draws : ℕ → Moment
@@ -37,7 +40,7 @@ FollowsAt config number state store entry new =
 -- behind the entries `done` of a request, the entry with that number is that of its next call, and leads from the state to the new one
 pub record IsNextEntry (setting : Setting) (moment : Moment) (request : Item) (stop : Option Stop) (done : List Entry) (number : ℕ) (state : State) (entry : Entry) (new : State) : Type 0 where
   pub asked : next_call setting.digest moment request stop done ≡ Some entry.call
-  pub caller : entry.caller ≡ 0
+  pub caller : entry.caller ≡ setting.caller
   pub fits : number < setting.room
   pub follows : FollowsAt setting.config number state (store_in done) entry new
 
@@ -49,6 +52,20 @@ Makes setting moment request stop done number state [] new =
 Makes setting moment request stop done number state (entry ∷ entries) new =
     (mid : State) × IsNextEntry setting moment request stop done number state entry mid
     × Makes setting moment request stop (done ++ entry ∷ []) (number + 1) mid entries new
+
+-- whether a request sends a content
+abbrev pub is_upload : Item → Bool
+is_upload (refused why bare) = false
+is_upload (whole head content) = is_put head.method
+is_upload (stopped head content why) = is_put head.method
+is_upload (cut head content) = is_put head.method
+
+-- What stops a request stops an upload: want of memory before its first call, or whatever befalls its content, behind a beginning that
+-- was accepted and in front of the call that puts it.
+abbrev pub MayStop : Item → Option Stop → List Entry → Type 0
+MayStop request None entries = Unit {0}
+MayStop request (Some stop) [] = (is_upload request ≡ true) × (stop ≡ stops.NoMemory)
+MayStop request (Some stop) (first ∷ entries) = (begins first ≡ true) × (entries ≡ [])
 
 -- what came of the content of a request
 abbrev pub content_of : Item → List ℕ
@@ -69,6 +86,7 @@ answer_of contents turn = response_of (contents_after turn contents) turn.reques
 -- out is there.
 pub record IsTurn (setting : Setting) (n number : ℕ) (state : State) (contents : Contents) (turn : Turn) (new : State) : Type 0 where
   pub makes : Makes setting (setting.draws n) turn.request turn.stop [] number state turn.entries new
+  pub stops : MayStop turn.request turn.stop turn.entries
   pub served : Serves (contents_after turn contents) (last_reply turn.entries)
 
 -- The turns, one after another, lead from state and contents to the new ones. The session ends after none but the last.

@@ -11,3 +11,4 @@ pub mod Responses
 pub mod Sources
 pub mod Progress
 pub mod Fed
+pub mod Needs

@@ -50,7 +50,8 @@ abbrev pub Gives : List ℕ → Past → SessionView → Step → Type 0
 -- there is room for more
 Gives fed past new steps.Need = IsStill fed past new × (new.ended ≡ false) × (new.longer ≡ false) × (waiting new < 32768)
 Gives fed past new (steps.Ask ask) = Asks fed past new ask
-Gives fed past new (steps.Body n) = Took new fed past × (is_inside (phase_of past) ≡ true) × (0 < n) × (n ≡ length new.lent)
+-- a content is handed on where nothing is left to say: behind `100 Continue`, where the request waits for that
+Gives fed past new (steps.Body n) = Took new fed past × (is_inside (phase_of past) ≡ true) × (0 < n) × (n ≡ length new.lent) × (new.out ≡ [])
 Gives fed past new steps.Say = Says fed past new
 -- the input ended between requests
 Gives fed past new (steps.Done ends.Clean) = IsStill fed past new × (new.ended ≡ true) × (phase_of past ≡ between) × (new.held ≡ [])

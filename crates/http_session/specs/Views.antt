@@ -1,5 +1,5 @@
 -- What contracts see of a session.
-use Rattle.std.specs.Prelude.{◌≡◌, ℕ, ◌+◌, ◌-◌, ◌^◌, min, Bool, true, false, ◌&&◌, ◌||◌, if◌then◌else◌, List, [], ◌∷◌, length}
+use Rattle.std.specs.Prelude.{◌≡◌, ◌<◌, ℕ, ◌+◌, ◌-◌, ◌^◌, min, Bool, true, false, ◌&&◌, ◌||◌, if◌then◌else◌, List, [], ◌∷◌, length}
 use Rattle.http_heads.specs.declared.head.Head.{Head}
 use Rattle.http_heads.specs.declared.method.Method.{Method}
 use Rattle.http_heads.specs.declared.method.Method.TheVariants as methods
@@ -89,3 +89,21 @@ is_over_at (places.Beginning framing expects closes) = false
 is_over_at (places.Inside body closes) = false
 is_over_at (places.Putting closes) = false
 is_over_at places.Over = true
+
+-- whether bytes come next where it stands
+abbrev pub reads_at : Place → Bool
+reads_at places.Between = true
+reads_at (places.Asked bare closes) = false
+reads_at (places.Beginning framing expects closes) = false
+reads_at (places.Inside body closes) = true
+reads_at (places.Putting closes) = false
+reads_at places.Over = false
+
+-- It waits for bytes: no answer is due, it hasn't ended, nothing is left to say, no content is lent, and the input may go on. There is room.
+pub record NeedsBytes (s : SessionView) : Type 0 where
+  pub reads : reads_at s.place ≡ true
+  pub quiet : s.out ≡ []
+  pub taken : s.lent ≡ []
+  pub going : s.ended ≡ false
+  pub short : s.longer ≡ false
+  pub room : waiting s < 32768

@@ -12,6 +12,8 @@
 //! far; what it said and has still to say is what is said at the marks. None of this depends on the pieces in which the bytes were
 //! fed, and so two sessions over the same bytes with the same answers did the same ([`two_sessions`]).
 //!
+//! A driver that reads by an [`Input`] reads only where the session waits for bytes.
+//!
 //! A session takes the first 2^40 bytes. It keeps 32,768 bytes, and takes no memory after it was made but for the head that is read.
 #![tactic(auto)]
 
@@ -21,6 +23,7 @@ mod body;
 mod buffer;
 mod filled;
 mod filling;
+mod input;
 mod laws;
 mod next;
 mod place;
@@ -30,6 +33,7 @@ mod standing;
 mod step;
 
 pub use filled::Filled;
+pub use input::Input;
 pub use laws::two_sessions;
 pub use session::Session;
 pub use step::Step;

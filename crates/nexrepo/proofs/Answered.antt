@@ -52,7 +52,7 @@ module _ {D T : Type 0} (devices : Devices D T) (moments : List Moment) (disk : 
   not_broken = ap (λ (c : CoreView D T). c.broken) opened.fresh
 
   setting_is : setting_of core (draw_of moments) ≡ setting_with opened.settings moments
-  setting_is = λ i. record { config = opened.config i; digest = sha1; draws = draw_of moments; room = (same_journal i).room }
+  setting_is = λ i. record { caller = 0; config = opened.config i; digest = sha1; draws = draw_of moments; room = (same_journal i).room }
 
   -- over fresh devices it stands for the repository in which nothing was stored
   stands_first : (table' : T) → IsFresh devices disk table table' → Stands devices core empty_state []

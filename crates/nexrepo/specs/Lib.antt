@@ -1,4 +1,5 @@
 pub mod Statuses
+pub mod AtEnd
 pub mod Commands
 pub mod Configs
 pub mod Ends

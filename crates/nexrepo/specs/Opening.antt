@@ -13,6 +13,8 @@ use Rattle.repo_core.specs.Rows.{rows_in}
 use Rattle.repo_core.specs.Standing.{Tracks}
 use Rattle.repo_core.specs.View.{CoreView}
 use Rattle.repo_core.specs.Devices.{Devices}
+use Rattle.repo_core.specs.declared.opening.OpenErr.{OpenErr}
+use Rattle.repo_core.specs.declared.opening.OpenErr.TheVariants as open_err
 use Rattle.nexrepo.specs.declared.opening.Unopened.{Unopened}
 use Rattle.nexrepo.specs.declared.status.Status.{Status}
 use Rattle.nexrepo.specs.declared.status.Status.TheVariants as status
@@ -29,6 +31,12 @@ refusal_status (refused.NoStore key) = status.BadConfig (Some key)
 refusal_status (refused.NestedGroup key) = status.BadConfig (Some key)
 refusal_status (refused.StoreInTwoGroups key) = status.BadConfig (Some key)
 refusal_status refused.NoMemory = status.NoMemory
+
+-- the status of a folder that isn't opened though its configuration was read
+abbrev pub not_open_status : OpenErr → Status
+not_open_status open_err.DiskFault = status.DiskFault
+not_open_status open_err.KeeperFault = status.KeeperFault
+not_open_status open_err.NoMemory = status.NoMemory
 
 -- why a folder isn't opened: its configuration is bad, the disk failed, or memory was refused
 abbrev pub IsOpenRefusal : Type 0 → Option (List ℕ) → ℕ → ℕ → Status → Type 0

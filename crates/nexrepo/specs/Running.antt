@@ -40,7 +40,7 @@ AreNone words = (folder : List ℕ) → ¬ (IsStdio words folder)
 -- under what the session of a run is held: contents are digested by SHA-1, and the moments are drawn one for each request
 abbrev pub setting_with : Settings → List Moment → Setting
 setting_with settings moments =
-    record { config = model_of settings; digest = sha1; draws = draw_of moments; room = settings.journal }
+    record { caller = 0; config = model_of settings; digest = sha1; draws = draw_of moments; room = settings.journal }
 
 -- Nothing was stored yet: the disk tells its files, of which none is a blob's, and the keeper its table, which has no rows. It tells it to
 -- the end.

@@ -7,7 +7,7 @@ ghost use Rattle.repo_core.specs.declared.opening.OpenErr.TheVariants as open_er
 ghost use Rattle.repo_core.specs.Devices.{devices};
 ghost use Rattle.nexrepo.specs.declared.status.Status.TheVariants as status;
 ghost use Rattle.nexrepo.specs.Configs.{FileGives};
-ghost use Rattle.nexrepo.specs.Opening.{refusal_status, IsOpenRefusal, IsOpened, IsUnopened};
+ghost use Rattle.nexrepo.specs.Opening.{refusal_status, not_open_status, IsOpenRefusal, IsOpened, IsUnopened};
 ghost use Rattle.nexrepo.specs.Statuses.{config_file};
 
 use crate::status::{CONFIG_FILE, Status};
@@ -15,7 +15,7 @@ use asset_keeper::Keeper;
 use disk_model::{Disk, DiskErr};
 use nx_base::Name;
 use repo_config::{Config, ConfigErr};
-use repo_core::{Core, NotOpen, Opening, open_folder};
+use repo_core::{Core, NotOpen, OpenErr, Opening, open_folder};
 use std::alloc::Global;
 
 /// The status of a configuration that is refused.
@@ -31,6 +31,17 @@ fn refused(why: ConfigErr) -> Status
         | ConfigErr::NoStore { key }
         | ConfigErr::NestedGroup { key }
         | ConfigErr::StoreInTwoGroups { key } => Status::BadConfig { key: Some(key) },
+    }
+}
+
+/// The status of a folder that isn't opened though its configuration was read.
+fn not_open(why: OpenErr) -> Status
+    ensures { result ≡ not_open_status why }
+{
+    match why {
+        OpenErr::DiskFault => Status::DiskFault,
+        OpenErr::KeeperFault => Status::KeeperFault,
+        OpenErr::NoMemory => Status::NoMemory,
     }
 }
 
@@ -98,14 +109,8 @@ pub fn open<D: Disk, T: Keeper>(
     };
     match open_folder(alloc, disk, table, opening) {
         Ok(core) => Ok(core),
-        Err(
-            NotOpen {
-                why: _,
-                disk,
-                table,
-            },
-        ) => Err(Unopened {
-            why: Status::NoMemory,
+        Err(NotOpen { why, disk, table }) => Err(Unopened {
+            why: not_open(why),
             disk,
             table,
         }),

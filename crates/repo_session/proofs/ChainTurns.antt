@@ -1,12 +1,12 @@
 -- Requests that a session answered one after another were answered by turns.
-use Rattle.std.proofs.Common.{◌≡◌, ◌⊎◌, inl, inr, ℕ, ◌+◌, Bool, false, List, [], ◌∷◌, length, refl, sym, ap, ◌∙◌, subst, arith}
+use Rattle.std.proofs.Common.{◌≡◌, ◌⊎◌, inl, inr, ℕ, ◌+◌, Bool, false, List, [], ◌∷◌, ◌++◌, length, refl, sym, ap, ◌∙◌, subst, arith}
 use Rattle.nx_io.specs.Causes.{RoseBy}
 use Rattle.nx_base.specs.declared.moment.Moment.{Moment}
 use Rattle.http_requests.specs.Requests.{Item}
-use Rattle.http_front.specs.Chains.{Answering, Chain, ChainsPast}
+use Rattle.http_front.specs.Answers.{Answer}
+use Rattle.http_front.specs.Chains.{Replying, Chain, ChainsPast}
 use Rattle.http_front.specs.Sessions.{ChainFails}
 use Rattle.http_front.specs.Turns.{Turn, entries_of, requests_of}
-use Rattle.session_driver.specs.Replying.{with_end}
 use Rattle.repo_core.specs.View.{CoreView}
 use Rattle.repo_session.specs.Answering.{SessionView, Answered}
 use Rattle.repo_core.specs.Devices.{Devices}
@@ -23,62 +23,70 @@ none_made [] e = refl
 none_made (turn ∷ turns) e = absurd (omega (arith, ap length e))
 
 module _ {A D T W R : Type 0} (devices : Devices D T) (view : A → SessionView D T W R) where
-  -- a request is answered as the session is seen, and ends it or not
-  abbrev Says : Answering (A × Bool)
-  Says = with_end (λ x y item answer. Answered devices (view x) (view y) item answer)
+  -- a request is answered as the session is seen
+  abbrev Says : Replying A
+  Says = λ x y item answer. Answered devices (view x) (view y) item answer
 
-  abbrev is_over : A × Bool → Bool
-  is_over = λ x. x.1
+  -- no request ended the session
+  at_end : (x y : A) (items : List Item) (bytes : List ℕ) (over : Bool) → Chain Says x items bytes y over → items ≡ [] → over ≡ false
+  at_end x y [] bytes over (e, same, not) none = not
+  at_end x y (item ∷ items) bytes over chain none = absurd (omega (arith, ap length none))
 
-  -- behind no request the session stands where it stood
-  at_end : (x y : A × Bool) (items : List Item) (bytes : List ℕ) → Chain Says is_over x items bytes y → items ≡ [] → x.1 ≡ y.1
-  at_end x y [] bytes (e, same) none = ap is_over (sym same)
-  at_end x y (item ∷ items) bytes chain none = absurd (omega (arith, ap length none))
-
-  pub chain_turns : (moments : List Moment) (n : ℕ) (requests : List Item) (written : List ℕ) (x y : A × Bool) → HasDrawn (view x.0).draws moments n → Chain Says is_over x requests written y
-      → HasTurnsFrom devices (view x.0).core (view y.0).core y.1 moments n requests written
-  chain_turns moments n [] written x y drawn (e, same) =
-      subst (λ (l : List ℕ). HasTurnsFrom devices (view x.0).core (view y.0).core y.1 moments n [] l) (sym e)
-      (subst (λ (p : A × Bool). HasTurnsFrom devices (view x.0).core (view p.0).core p.1 moments n [] []) (sym same)
-      ([], refl, runs_none devices (view x.0).core x.1 moments n))
-  chain_turns moments n (item ∷ items) written x y drawn (mid, answer, rest, answered, goes, chain, e) =
-      let draw = answered.drawn moments n drawn in
+  -- a turn that ends the session, behind which there is none
+  alone : (moments : List Moment) (n : ℕ) (item : Item) (x mid : A) (answer : Answer) → HasDrawn (view x).draws moments n → Says x mid item answer
+      → HasTurnsFrom devices (view x).core (view mid).core answer.ends moments n (item ∷ []) (answer.bytes ++ [])
+  alone moments n item x mid answer drawn answered =
       let t = answered.turned in
-      let behind = chain_turns moments (n + 1) items rest mid y draw.1 chain in
-      let turn : Turn = record { request = item; stop = t.stop; entries = t.entries } in
-      let none : behind.0 ≡ [] → items ≡ [] = λ is. sym behind.1 ∙ ap requests_of is in
-      let first : (mid.1 ≡ false) ⊎ (behind.0 ≡ []) = elim goes [
-        | inl not ↦ inl not
-        | inr end ↦ inr (none_made behind.0 (behind.1 ∙ end))
-      ] in
-      subst (λ (l : List ℕ). HasTurnsFrom devices (view x.0).core (view y.0).core y.1 moments n (item ∷ items) l) (sym e) (
-        turn ∷ behind.0,
-        ap (λ (l : List Item). item ∷ l) behind.1,
-        runs_more devices (view x.0).core (view mid.0).core (view y.0).core mid.1 y.1 moments n answered.moment turn behind.0 answer rest draw.0 t.made t.says first
-            (λ is. at_end mid y items rest chain (none is)) behind.2,
+      let turn : Turn = record { request = item; stop = t.stop; entries = t.entries } in (
+        turn ∷ [],
+        refl,
+        runs_more devices (view x).core (view mid).core (view mid).core answer.ends answer.ends moments n answered.moment turn [] answer.bytes [] (answered.drawn moments n drawn).0 t.made t.says (inr refl)
+            (λ none. refl) (runs_none devices (view mid).core answer.ends moments (n + 1)),
       )
 
-  pub past_turns : (moments : List Moment) (requests : List Item) (written : List ℕ) (count : ℕ) (x y : A × Bool) → HasDrawn (view x.0).draws moments 0
-      → ChainsPast Says is_over x requests written y count → HasTurnsPast devices (view x.0).core moments requests written count
-  past_turns moments requests written count x y drawn c = record {
+  pub chain_turns : (moments : List Moment) (n : ℕ) (requests : List Item) (written : List ℕ) (x y : A) (over : Bool) → HasDrawn (view x).draws moments n → Chain Says x requests written y over
+      → HasTurnsFrom devices (view x).core (view y).core over moments n requests written
+  chain_turns moments n [] written x y over drawn (e, same, not) =
+      subst (λ (l : List ℕ). HasTurnsFrom devices (view x).core (view y).core over moments n [] l) (sym e)
+      (subst (λ (p : A). HasTurnsFrom devices (view x).core (view p).core over moments n [] []) (sym same)
+      ([], refl, runs_none devices (view x).core over moments n))
+  chain_turns moments n (item ∷ items) written x y over drawn (mid, answer, rest, answered, e, inl (goes, chain)) =
+      let draw = answered.drawn moments n drawn in
+      let t = answered.turned in
+      let behind = chain_turns moments (n + 1) items rest mid y over draw.1 chain in
+      let turn : Turn = record { request = item; stop = t.stop; entries = t.entries } in
+      let last : behind.0 ≡ [] → answer.ends ≡ over = λ is. goes ∙ sym (at_end mid y items rest over chain (sym behind.1 ∙ ap requests_of is)) in
+      subst (λ (l : List ℕ). HasTurnsFrom devices (view x).core (view y).core over moments n (item ∷ items) l) (sym e) (
+        turn ∷ behind.0,
+        ap (λ (l : List Item). item ∷ l) behind.1,
+        runs_more devices (view x).core (view mid).core (view y).core answer.ends over moments n answered.moment turn behind.0 answer.bytes rest draw.0 t.made t.says (inl goes) last behind.2,
+      )
+  chain_turns moments n (item ∷ items) written x y over drawn (mid, answer, rest, answered, e, inr (ends, none, no_rest, same, was)) =
+      subst (λ (l : List ℕ). HasTurnsFrom devices (view x).core (view y).core over moments n (item ∷ items) l) (sym (e ∙ ap (λ (l : List ℕ). answer.bytes ++ l) no_rest))
+      (subst (λ (l : List Item). HasTurnsFrom devices (view x).core (view y).core over moments n (item ∷ l) (answer.bytes ++ [])) (sym none)
+      (subst (λ (p : A). HasTurnsFrom devices (view x).core (view p).core over moments n (item ∷ []) (answer.bytes ++ [])) (sym same)
+      (subst (λ (o : Bool). HasTurnsFrom devices (view x).core (view mid).core o moments n (item ∷ []) (answer.bytes ++ [])) (ends ∙ sym was)
+      (alone moments n item x mid answer drawn answered))))
+
+  pub past_turns : (moments : List Moment) (requests : List Item) (written : List ℕ) (x y : A) (over : Bool) (count : ℕ) → HasDrawn (view x).draws moments 0
+      → ChainsPast Says x requests written y over count → HasTurnsPast devices (view x).core moments requests written count
+  past_turns moments requests written x y over count drawn c = record {
     front = c.front;
     last = c.last;
     before = c.before;
-    answer = c.answer;
-    mid = (view c.mid.0).core;
-    over = c.mid.1;
+    answer = c.answer.bytes;
+    mid = (view c.mid).core;
     requests_are = c.requests;
     parts = c.parts;
-    made = chain_turns moments 0 c.front c.before x c.mid drawn c.made;
+    made = chain_turns moments 0 c.front c.before x c.mid false drawn c.made;
     past = c.past;
   }
 
-  pub chain_fails : (moments : List Moment) (x y : A × Bool) → HasDrawn (view x.0).draws moments 0
-      → ChainFails Says (λ x y. DownloadFails devices (view x.0).core (view y.0).core) is_over x y
-      → DownloadFails devices (view x.0).core (view y.0).core
+  pub chain_fails : (moments : List Moment) (x y : A) → HasDrawn (view x).draws moments 0 → ChainFails Says (λ x y. DownloadFails devices (view x).core (view y).core) x y
+      → DownloadFails devices (view x).core (view y).core
   chain_fails moments x y drawn c = λ is table.
       let failed = c.fails is table in
-      let before = chain_turns moments 0 c.front c.before x c.start drawn c.made in
+      let before = chain_turns moments 0 c.front c.before x c.start false drawn c.made in
       let runs = before.2 in (
         runs.since.tells failed.0,
         λ state contents stands.

@@ -8,10 +8,11 @@ use Rattle.repo_model.specs.declared.reply.Reply.TheVariants as reply
 use Rattle.repo_model.specs.declared.transfer.UploadErr.TheVariants as uploads
 use Rattle.http_heads.specs.declared.head.Head.{Head}
 use Rattle.http_heads.specs.Head.{is_put}
-use Rattle.http_requests.specs.Requests.{Item}
+use Rattle.http_requests.specs.Requests.{Item, refused, whole, stopped, cut}
+use Rattle.http_front.specs.Asking.{IsOf}
 use Rattle.http_front.specs.declared.stop.Stop.TheVariants as stops
 use Rattle.http_front.specs.Answers.{Answer, first_reply, has_begun, begin_refused, last_refusal}
-use Rattle.http_front.specs.Turns.{Turn, contents_after}
+use Rattle.http_front.specs.Turns.{Turn, is_upload, contents_after}
 use Rattle.session_history.specs.Asking.{begin_of}
 use Rattle.session_history.specs.Saying.{why_upload}
 use Rattle.session_driver.specs.Replying.{AnswersEach}
@@ -47,10 +48,17 @@ upload_denied devices old new head why moment put called item of = record {
       record { bytes_are = ap (λ (a : Answer). a.bytes) (sym says); ends_are = ap (λ (a : Answer). a.ends) (sym says) };
 }
 
+-- a request with the head of an upload is one
+is_one : (head : Head) (item : Item) → IsOf head item → is_put head.method ≡ true → is_upload item ≡ true
+is_one head (refused why bare) of put = absurd of
+is_one head (whole asked content) of put = ap (λ (h : Head). is_put h.method) of ∙ put
+is_one head (stopped asked content why) of put = ap (λ (h : Head). is_put h.method) of ∙ put
+is_one head (cut asked content) of put = ap (λ (h : Head). is_put h.method) of ∙ put
+
 -- Memory was refused before any call.
-no_call_turn : {D T : Type 0} (devices : Devices D T) (core : CoreView D T) (item : Item) (moment : Moment)
+no_call_turn : {D T : Type 0} (devices : Devices D T) (core : CoreView D T) (item : Item) (moment : Moment) → is_upload item ≡ true
     → TurnMade devices core core moment (record { request = item; stop = Some stops.NoMemory; entries = [] })
-no_call_turn devices core item moment = record {
+no_call_turn devices core item moment upload = record {
   since = record {
     journal = ap (λ (l : List Entry). record core.journal { entries = l }) (sym (append-nil core.journal.entries));
     config = refl;
@@ -61,6 +69,7 @@ no_call_turn devices core item moment = record {
     disk_broke = λ cause was is says. absurd (some_is_none (sym is ∙ was));
     keeper_broke = λ cause was is says. absurd (some_is_none (sym is ∙ was));
   };
+  stops = (upload, refl);
   disk = omega arith;
   keeper = omega arith;
   leads = λ told is draws state contents stands. record { next = state; makes = (inr (inr refl), refl); served = tt; stands = stands };
@@ -75,7 +84,7 @@ pub upload_not_asked : {D T : Type 0} (devices : Devices D T) (core : CoreView D
 upload_not_asked devices core head moment put item of = record {
   stop = Some stops.NoMemory;
   entries = [];
-  made = no_call_turn devices core item moment;
+  made = no_call_turn devices core item moment (is_one head item of put);
   says = λ told is state contents stands.
       let says = answer_stop_first contents head item stops.NoMemory of put in
       record { bytes_are = ap (λ (a : Answer). a.bytes) (sym says); ends_are = ap (λ (a : Answer). a.ends) (sym says) };

@@ -102,7 +102,7 @@ gives_more told left faults front start before after waiting piece taken taken' 
 }
 
 -- what waits was written, as far as it could be, and no more is given than such bytes behind it
-pub gives_rest : {R E : Type 0} (told : Type 0) (left : R → List ℕ) (faults : R → ℕ) (front : List ℕ) (start now : Download R) (waiting more all : List ℕ) (taken taken' taken'' : Option (List ℕ)) (writes writes' : ℕ) (result : Result (Unit {0}) E)
+pub gives_rest : {R : Type 0} (told : Type 0) (left : R → List ℕ) (faults : R → ℕ) (front : List ℕ) (start now : Download R) (waiting more all : List ℕ) (taken taken' taken'' : Option (List ℕ)) (writes writes' : ℕ) (result : Result (Unit {0}) Unsaid)
     → GivesOut told left faults front start now waiting taken taken' writes writes' → (told → IsWhole left now → to_come left now ≡ more) → all ≡ waiting ++ more
     → Sent taken' taken'' all result
     → SentSome (IsGivenBehind told left front start) taken taken'' result
@@ -117,7 +117,7 @@ gives_rest told left faults front start now waiting more all taken taken' taken'
 )
 
 -- the download is at its end
-pub gives_all : {R E : Type 0} (told : Type 0) (left : R → List ℕ) (faults : R → ℕ) (front : List ℕ) (start before after : Download R) (waiting piece now : List ℕ) (taken taken' taken'' : Option (List ℕ)) (writes writes' at : ℕ) (result : Result (Unit {0}) E)
+pub gives_all : {R : Type 0} (told : Type 0) (left : R → List ℕ) (faults : R → ℕ) (front : List ℕ) (start before after : Download R) (waiting piece now : List ℕ) (taken taken' taken'' : Option (List ℕ)) (writes writes' at : ℕ) (result : Result (Unit {0}) Unsaid)
     → GivesOut told left faults front start before waiting taken taken' writes writes' → HasRead told left faults before after waiting piece at 0 → after.given ≡ after.size → now ≡ waiting → Sent taken' taken'' now result
     → SentSome (IsGivenBehind told left front start) taken taken'' result
 gives_all told left faults front start before after waiting piece now taken taken' taken'' writes writes' at result gives read ended is sent =
@@ -131,7 +131,7 @@ gives_all told left faults front start before after waiting piece now taken take
     nothing = none after.given after.size (left after.reader) ended
 
 -- a piece was written in part alone
-pub gives_front : {R E : Type 0} (told : Type 0) (left : R → List ℕ) (faults : R → ℕ) (front : List ℕ) (start before after : Download R) (waiting piece : List ℕ) (taken taken' taken'' : Option (List ℕ)) (writes writes' at n : ℕ) (why : E)
+pub gives_front : {R : Type 0} (told : Type 0) (left : R → List ℕ) (faults : R → ℕ) (front : List ℕ) (start before after : Download R) (waiting piece : List ℕ) (taken taken' taken'' : Option (List ℕ)) (writes writes' at n : ℕ) (why : Unsaid)
     → GivesOut told left faults front start before waiting taken taken' writes writes' → HasRead told left faults before after waiting piece at n
     → Sent taken' taken'' (take (at + n) piece) (Err why)
     → SentSome (IsGivenBehind told left front start) taken taken'' (Err why)
@@ -141,7 +141,7 @@ gives_front told left faults front start before after waiting piece taken taken'
     (sent_front taken' taken'' (take (at + n) piece) (to_come left after) why sent)
 
 -- the download failed, and what waits was written in part alone
-pub gives_so_far : {R E : Type 0} (told : Type 0) (left : R → List ℕ) (faults : R → ℕ) (front : List ℕ) (start before : Download R) (waiting now : List ℕ) (taken taken' taken'' : Option (List ℕ)) (writes writes' : ℕ) (why : E)
+pub gives_so_far : {R : Type 0} (told : Type 0) (left : R → List ℕ) (faults : R → ℕ) (front : List ℕ) (start before : Download R) (waiting now : List ℕ) (taken taken' taken'' : Option (List ℕ)) (writes writes' : ℕ) (why : Unsaid)
     → GivesOut told left faults front start before waiting taken taken' writes writes' → now ≡ waiting → Sent taken' taken'' now (Err why)
     → SentSome (IsGivenBehind told left front start) taken taken'' (Err why)
 gives_so_far told left faults front start before waiting now taken taken' taken'' writes writes' why gives is sent =
@@ -149,11 +149,11 @@ gives_so_far told left faults front start before waiting now taken taken' taken'
     (ap (λ (l : List ℕ). l ++ to_come left before) is) (sent_front taken' taken'' now (to_come left before) why sent)
 
 -- and as a whole
-pub all_sent : {E : Type 0} (taken taken' : Option (List ℕ)) (bytes : List ℕ) (why : E) → Appends taken taken' bytes → Sent taken taken' bytes (Err why)
-all_sent taken taken' bytes why sent = (length bytes, omega arith, subst (λ (l : List ℕ). Appends taken taken' l) (sym (take-length bytes)) sent)
+pub all_sent : (taken taken' : Option (List ℕ)) (bytes : List ℕ) → Appends taken taken' bytes → Sent taken taken' bytes (Err DownloadFault)
+all_sent taken taken' bytes sent = (length bytes, omega arith, subst (λ (l : List ℕ). Appends taken taken' l) (sym (take-length bytes)) sent)
 
 -- a front that is longer than a piece was written alone, in part
-pub alone_front : {R E : Type 0} (told : Type 0) (left : R → List ℕ) (front : List ℕ) (download : Download R) (taken taken' : Option (List ℕ)) (why : E)
+pub alone_front : {R : Type 0} (told : Type 0) (left : R → List ℕ) (front : List ℕ) (download : Download R) (taken taken' : Option (List ℕ)) (why : Unsaid)
     → Sent taken taken' front (Err why) → SentSome (IsGivenBehind told left front download) taken taken' (Err why)
 alone_front told left front download taken taken' why sent = (
   front ++ to_come left download,
@@ -162,7 +162,7 @@ alone_front told left front download taken taken' why sent = (
 )
 
 -- or as a whole, and the content behind it
-pub alone_content : {R E : Type 0} (told : Type 0) (left : R → List ℕ) (front : List ℕ) (download : Download R) (taken taken' taken'' : Option (List ℕ)) (result : Result (Unit {0}) E)
+pub alone_content : {R : Type 0} (told : Type 0) (left : R → List ℕ) (front : List ℕ) (download : Download R) (taken taken' taken'' : Option (List ℕ)) (result : Result (Unit {0}) Unsaid)
     → Appends taken taken' front → SentSome (IsGivenBehind told left [] download) taken' taken'' result
     → SentSome (IsGivenBehind told left front download) taken taken'' result
 alone_content told left front download taken taken' taken'' result first sent = (

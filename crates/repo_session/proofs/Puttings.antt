@@ -87,6 +87,7 @@ put_turn : {D T : Type 0} (devices : Devices D T) (start mid rest new : CoreView
     → TurnMade devices start new moment (record { request = whole head content; stop = None; entries = begin_entry head store ∷ p.called.entries })
 put_turn {D} {T} devices start mid rest new moment head content store c said put serves p = record {
   since = since_both devices start rest new (begin_entry head store ∷ []) p.called.entries since p.called.since;
+  stops = tt;
   disk = grind (arith, since.disk_later, disk_of_call devices rest new _ _ c said p.called.entries p.called.made p.called.since.disk_later p.called.cause);
   keeper = grind (arith, since.keeper_later, keeper_of_call devices rest new _ _ c said p.called.entries p.called.made p.called.since.keeper_later p.called.cause);
   leads = leads;
@@ -127,7 +128,7 @@ put_turn {D} {T} devices start mid rest new moment head content store c said put
         ap (λ (r : Reply). with_content r content contents) last in
         record {
           next = led.0;
-          makes = makes_two (setting_of start draws) moment (whole head content) None (length start.journal.entries) state begins.0 led.0
+          makes = makes_two (setting_of start draws) refl moment (whole head content) None (length start.journal.entries) state begins.0 led.0
               (call.Begin (begin_of head)) c (reply.Begun store) said p.called.entries
               (asks_begin moment head (whole head content) refl put) (ap Some (sym (p.is told))) entry.0 follows.0 made by;
           served = subst (λ (r : Reply). Serves (with_content (last_reply (begin_entry head store ∷ p.called.entries)) content contents) r) (sym last) (serves _);

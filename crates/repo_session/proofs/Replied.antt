@@ -49,6 +49,7 @@ head_refused devices core moment why bare = record {
       disk_broke = λ cause was is says. absurd (some_is_none (sym is ∙ was));
       keeper_broke = λ cause was is says. absurd (some_is_none (sym is ∙ was));
     };
+    stops = tt;
     disk = omega arith;
     keeper = omega arith;
     leads = λ told is draws state contents stands. record { next = state; makes = (inl refl, refl); served = tt; stands = stands };

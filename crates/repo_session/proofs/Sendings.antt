@@ -1,11 +1,11 @@
 -- What was written of an answer to a request.
-use Rattle.std.proofs.Common.{◌≡◌, ℕ, ◌+◌, List, [], ◌++◌, length, take, Option, Some, None, Result, Ok, Err, refl, sym, ap, ◌∙◌, subst, arith, append_assoc}
+use Rattle.std.proofs.Common.{◌≡◌, ℕ, ◌+◌, ◌≤◌, List, [], ◌++◌, length, take, Option, Some, None, Result, Ok, Err, refl, sym, ap, ◌∙◌, subst, arith, append_assoc}
 use Rattle.std.proofs.Math.Seq.{take-append-add}
 use Rattle.std.proofs.lemmas.List.{append-nil, take-append-le, length-append}
 use Rattle.std.specs.Io.KnownBytes.{Appends}
 use Rattle.http_front.specs.declared.unsaid.Unsaid.{Unsaid}
 use Rattle.http_front.specs.declared.unsaid.Unsaid.TheVariants.{WriteFault, DownloadFault}
-use Rattle.http_front.specs.Replying.{IsAnswered}
+use Rattle.http_front.specs.Replying.{IsShort, IsAnswered}
 use Rattle.repo_session.specs.Sending.{Sent, OnlyWriteFails}
 
 pub appends_none : (taken : Option (List ℕ)) → Appends taken taken []
@@ -18,21 +18,35 @@ appends_both (Some x) None last bytes more a b = absurd a
 appends_both (Some x) (Some y) None bytes more a b = absurd b
 appends_both (Some x) (Some y) (Some z) bytes more a b = b ∙ ap (λ (l : List ℕ). l ++ more) a ∙ append_assoc x bytes more
 
+-- what is left out of some bytes is left out of more
+
+short_more : (why : Unsaid) (count : ℕ) (bytes more : List ℕ) → IsShort why count (length bytes) → IsShort why count (length (bytes ++ more))
+short_more WriteFault count bytes more short = simp length-append (omega (arith, short))
+short_more DownloadFault count bytes more short = simp length-append (omega (arith, short))
+
+short_behind : (why : Unsaid) (count : ℕ) (bytes more : List ℕ) → IsShort why count (length more) → IsShort why (length bytes + count) (length (bytes ++ more))
+short_behind WriteFault count bytes more short = simp length-append (omega (arith, short))
+short_behind DownloadFault count bytes more short = simp length-append (omega (arith, short))
+
+at_most : (why : Unsaid) (count all : ℕ) → IsShort why count all → count ≤ all
+at_most WriteFault count all short = omega (arith, short)
+at_most DownloadFault count all short = short
+
 -- a front of the first bytes is one of all
-pub sent_front : {E : Type 0} (taken taken' : Option (List ℕ)) (bytes more : List ℕ) (why : E) → Sent taken taken' bytes (Err why) → Sent taken taken' (bytes ++ more) (Err why)
+pub sent_front : (taken taken' : Option (List ℕ)) (bytes more : List ℕ) (why : Unsaid) → Sent taken taken' bytes (Err why) → Sent taken taken' (bytes ++ more) (Err why)
 sent_front taken taken' bytes more why sent = (
   sent.0,
-  simp length-append (omega (arith, sent.1)),
-  subst (λ (l : List ℕ). Appends taken taken' l) (sym (take-append-le sent.0 bytes more sent.1)) sent.2,
+  short_more why sent.0 bytes more sent.1,
+  subst (λ (l : List ℕ). Appends taken taken' l) (sym (take-append-le sent.0 bytes more (at_most why sent.0 (length bytes) sent.1))) sent.2,
 )
 
 -- what was written behind bytes that were
-pub sent_behind : {E : Type 0} (taken taken' taken'' : Option (List ℕ)) (bytes more : List ℕ) (result : Result (Unit {0}) E)
+pub sent_behind : (taken taken' taken'' : Option (List ℕ)) (bytes more : List ℕ) (result : Result (Unit {0}) Unsaid)
     → Appends taken taken' bytes → Sent taken' taken'' more result → Sent taken taken'' (bytes ++ more) result
 sent_behind taken taken' taken'' bytes more (Ok x) before sent = appends_both taken taken' taken'' bytes more before sent
 sent_behind taken taken' taken'' bytes more (Err why) before sent = (
   length bytes + sent.0,
-  simp length-append (omega (arith, sent.1)),
+  short_behind why sent.0 bytes more sent.1,
   subst (λ (l : List ℕ). Appends taken taken'' l) (sym (take-append-add bytes more sent.0)) (appends_both taken taken' taken'' bytes (take sent.0 more) before sent.2),
 )
 

@@ -106,7 +106,7 @@ runs_more {D} {T} devices old mid new ends over moments n moment turn turns answ
         record {
           next = two.next;
           after = two.after;
-          are = (one.next, record { makes = makes; served = one.served }, goes_on contents said.ends_are goes, behind);
+          are = (one.next, record { makes = makes; stops = made.stops; served = one.served }, goes_on contents said.ends_are goes, behind);
           stands = two.stands;
           said = ap (λ (l : List ℕ). l ++ rest) said.bytes_are ∙ ap (λ (l : List ℕ). (answer_of contents turn).bytes ++ l) two.said;
           ends = last_of_more over ends contents turn turns said.ends_are last two.ends;

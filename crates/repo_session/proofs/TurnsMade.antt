@@ -150,6 +150,7 @@ pub turn_of_one : {D T : Type 0} (devices : Devices D T) (old mid new : CoreView
     → TurnMade devices old new moment (record { request = request; stop = None; entries = called.entries })
 turn_of_one {D} {T} devices old mid new moment request c said asks one called rests gives = record {
   since = since_rests devices old mid new called.entries called.since rests;
+  stops = tt;
   disk = rose_by_later _ _ _ _ (disk_of_call devices old mid _ _ c said called.entries called.made called.since.disk_later called.cause) rests.later;
   keeper = subst (λ (t : T). RoseBy (keeper_faults_in called.entries) (devices.keeper_faults old.table) (devices.keeper_faults t)) (sym table)
       (keeper_of_call devices old mid _ _ c said called.entries called.made called.since.keeper_later called.cause);
@@ -170,7 +171,7 @@ turn_of_one {D} {T} devices old mid new moment request c said asks one called re
         ap (λ (r : Reply). with_content r (content_of request) contents) last ∙ given.keeps (content_of request) in
         record {
           next = led.0;
-          makes = makes_one (setting_of old draws) moment request None (length old.journal.entries) state led.0 c said called.entries asks (none_next moment request c said one) called.made led.1;
+          makes = makes_one (setting_of old draws) refl moment request None (length old.journal.entries) state led.0 c said called.entries asks (none_next moment request c said one) called.made led.1;
           served = subst (λ (r : Reply). Serves (with_content (last_reply called.entries) (content_of request) contents) r) (sym last)
               (subst (λ (l : Contents). Serves l said) (sym same) given.served);
           stands = subst (λ (l : Contents). Stands devices new led.0 l) (sym same) (rests.stands told led.0 contents led.2);

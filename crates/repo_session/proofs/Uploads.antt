@@ -24,6 +24,7 @@ use Rattle.http_front.specs.Calls.{call_of, first_call, next_call}
 use Rattle.http_front.specs.Contents.{Contents}
 use Rattle.http_front.specs.Entries.{goes_on}
 use Rattle.http_front.specs.Responses.{why_stopped}
+use Rattle.http_front.specs.Turns.{MayStop}
 use Rattle.session_history.specs.Asking.{begin_of}
 use Rattle.session_history.specs.Saying.{why_upload}
 use Rattle.session_driver.specs.Replying.{AnswersEach, told}
@@ -72,11 +73,16 @@ pub upload_turn : {D T : Type 0} (devices : Devices D T) (start mid new : CoreVi
     → TurnMade devices start new moment (record { request = item; stop = stop; entries = begin_entry head store ∷ [] })
 upload_turn {D} {T} devices start mid new head store item stop moment put of ends begun rests rose = record {
   since = since_rests devices start mid new (begin_entry head store ∷ []) since rests;
+  stops = begun_stops stop;
   disk = grind (arith, since.disk_later, rose);
   keeper = subst (λ (t : T). RoseBy 0 (devices.keeper_faults start.table) (devices.keeper_faults t)) (sym table) (rose_none _ _ since.keeper_later);
   leads = leads;
 }
   where
+    begun_stops : (stop : Option Stop) → MayStop item stop (begin_entry head store ∷ [])
+    begun_stops None = tt
+    begun_stops (Some s) = (refl, refl)
+
     entry : (length start.journal.entries < start.journal.room) × (begun.entries ≡ begin_entry head store ∷ [])
     entry = begun_entries _ _ head store begun.entries begun.made
 
@@ -95,7 +101,7 @@ upload_turn {D} {T} devices start mid new head store item stop moment put of end
         let led = begun.leads told (told_before devices mid new rests is) state contents stands in
         record {
           next = led.0;
-          makes = makes_one (setting_of start draws) moment item stop (length start.journal.entries) state led.0 (call.Begin (begin_of head)) (reply.Begun store) (begin_entry head store ∷ [])
+          makes = makes_one (setting_of start draws) refl moment item stop (length start.journal.entries) state led.0 (call.Begin (begin_of head)) (reply.Begun store) (begin_entry head store ∷ [])
               (asks_begin moment head item of put) last (inl (entry.0, refl))
               (subst (λ (l : List Entry). LeadsBy _ (length start.journal.entries) state [] l led.0) entry.1 led.1);
           served = tt;

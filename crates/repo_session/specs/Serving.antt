@@ -1,5 +1,5 @@
 -- What a session makes of a core.
-use Rattle.std.specs.Prelude.{◌≡◌, ℕ, ◌+◌, ◌≤◌, Bool, List, [], ◌∷◌, ◌++◌, length, sum_by, IsSome}
+use Rattle.std.specs.Prelude.{◌≡◌, ℕ, ◌+◌, ◌≤◌, Bool, false, List, [], ◌∷◌, ◌++◌, length, sum_by, IsSome}
 use Rattle.nx_io.specs.Causes.{RoseBy}
 use Rattle.nx_base.specs.declared.moment.Moment.{Moment}
 use Rattle.repo_model.specs.State.{State}
@@ -51,15 +51,14 @@ HasTurnsFrom devices old new over moments n requests written =
 abbrev pub HasTurns : {D T : Type 0} → Devices D T → CoreView D T → CoreView D T → Bool → List Moment → List Item → List ℕ → Type 0
 HasTurns devices old new over moments requests written = HasTurnsFrom devices old new over moments 0 requests written
 
--- So many bytes hold all the answers but the last, which were made by turns.
+-- So many bytes hold all the answers but the last, which were made by turns that didn't end the session.
 pub record HasTurnsPast {D T : Type 0} (devices : Devices D T) (old : CoreView D T) (moments : List Moment) (requests : List Item) (written : List ℕ) (count : ℕ) : Type 0 where
   pub front : List Item
   pub last : Item
   pub before : List ℕ
   pub answer : List ℕ
   pub mid : CoreView D T
-  pub over : Bool
   pub requests_are : requests ≡ front ++ last ∷ []
   pub parts : written ≡ before ++ answer
-  pub made : HasTurns devices old mid over moments front before
+  pub made : HasTurns devices old mid false moments front before
   pub past : length before ≤ count

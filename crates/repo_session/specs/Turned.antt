@@ -16,7 +16,7 @@ use Rattle.http_front.specs.declared.stop.Stop.TheVariants as stops
 use Rattle.http_front.specs.Answers.{Answer, last_reply}
 use Rattle.http_front.specs.Contents.{Contents}
 use Rattle.http_front.specs.Served.{Serves}
-use Rattle.http_front.specs.Turns.{Setting, Turn, Makes, contents_after, answer_of}
+use Rattle.http_front.specs.Turns.{Setting, Turn, Makes, MayStop, contents_after, answer_of}
 use Rattle.repo_core.specs.View.{CoreView}
 use Rattle.repo_core.specs.Devices.{Devices}
 use Rattle.repo_session.specs.Standing.{Stands}
@@ -24,7 +24,7 @@ use Rattle.repo_session.specs.Called.{Since}
 
 -- under what a session over the core runs
 abbrev pub setting_of : {D T : Type 0} → CoreView D T → (ℕ → Moment) → Setting
-setting_of core draws = record { config = config_of core.config; digest = sha1; draws = draws; room = core.journal.room }
+setting_of core draws = record { caller = 0; config = config_of core.config; digest = sha1; draws = draws; room = core.journal.room }
 
 -- whether a refusal says that the disk failed, or the keeper
 abbrev pub says_disk : Refusal → Bool
@@ -87,10 +87,11 @@ pub record TurnLeads {D T : Type 0} (devices : Devices D T) (old new : CoreView 
   pub served : Serves (contents_after turn contents) (last_reply turn.entries)
   pub stands : Stands devices new next (contents_after turn contents)
 
--- From one core to another the turn was made: its entries joined the journal, and the devices' counts rose by as many faults as they and
--- the stop tell of. Told, it leads on from each state and contents that the old core stands for.
+-- From one core to another the turn was made: its entries joined the journal, it was stopped only where it could be, and the devices'
+-- counts rose by as many faults as the entries and the stop tell of. Told, it leads on from each state and contents that the old core stands for.
 pub record TurnMade {D T : Type 0} (devices : Devices D T) (old new : CoreView D T) (moment : Moment) (turn : Turn) : Type 0 where
   pub since : Since devices old new turn.entries
+  pub stops : MayStop turn.request turn.stop turn.entries
   pub disk : RoseBy (disk_faults_in turn.entries + stop_faults turn.stop) (devices.disk_faults old.disk) (devices.disk_faults new.disk)
   pub keeper : RoseBy (keeper_faults_in turn.entries) (devices.keeper_faults old.table) (devices.keeper_faults new.table)
   pub leads : devices.told → IsSome (devices.table new.table) → (draws : ℕ → Moment) (state : State) (contents : Contents) → Stands devices old state contents

@@ -1,22 +1,13 @@
 -- What a repository answers to the requests of a session.
-use Rattle.std.specs.Prelude.{◌≡◌, Bool, true, false, Result, Ok, Err}
+use Rattle.std.specs.Prelude.{◌≡◌, true, false, Result, Ok, Err}
 use Rattle.repo_model.specs.declared.reply.Reply.{Reply}
 use Rattle.repo_model.specs.declared.transfer.UploadErr.{UploadErr}
 use Rattle.http_heads.specs.declared.head.Head.{Head}
 use Rattle.http_requests.specs.Requests.{Item}
 use Rattle.http_front.specs.Asking.{IsOf}
 use Rattle.http_front.specs.Answers.{Answer, behind, begin_refused, last_refusal}
-use Rattle.http_front.specs.Chains.{Answering}
 use Rattle.session_history.specs.Phases.{is_begun, go_on, put_reply}
 use Rattle.session_history.specs.Saying.{why_upload}
-
--- whether from one value to another a request was answered so
-abbrev pub Replying : Type 0 → Type 1
-Replying A = A → A → Item → Answer → Type 0
-
--- the same, of a value and whether the last answer ended the session
-abbrev pub with_end : {A : Type 0} → Replying A → Answering (A × Bool)
-with_end Answers x y item bytes = Answers x.0 y.0 item (record { bytes = bytes; ends = y.1 })
 
 -- it is the answer to each request with that head, whatever its content is
 abbrev pub AnswersEach : (Item → Answer → Type 0) → Head → Answer → Type 0

@@ -12,8 +12,8 @@ use crate::reads::read_more;
 use crate::repository::Repository;
 use crate::uploads::{abort, begin_upload, commit, take_part};
 use http_front::End;
-use http_session::{Session, Step};
-use nx_io::{Sink, Source};
+use http_session::{Input, Session, Step};
+use nx_io::Sink;
 use session_history::Ask;
 use std::alloc::Global;
 
@@ -40,18 +40,18 @@ fn make_call<R: Repository, K: Sink>(
 }
 
 /// Does what the session says next. Nothing, where it goes on.
-fn take_step<R: Repository, S: Source, K: Sink>(
+fn take_step<R: Repository, I: Input, K: Sink>(
     session: &mut Session,
     repository: &mut R,
-    input: &mut S,
+    input: &mut I,
     output: &mut K,
 ) -> Option<End>
     requires due { awaits_at session.old.place ≡ false }
     requires past { HasPast session.old }
     ensures goes { (x : R) (left : Option (List ℕ)) (taken : Option (List ℕ)) (fed : List ℕ)
-        → HasFed session.old left (S.left input.old) (S.ended input.old) fed → Stands R.Answers R.Uploads x repository.old session.old taken (K.taken output.old) fed
-        → Goes (λ fed. Stands R.Answers R.Uploads x repository.new session.new taken (K.taken output.new) fed × (distance session.new < distance session.old)) (EndsSo R.Answers R.Fails x repository.new left (S.left input.new) (S.ended input.new) taken (K.taken output.new)) session.new left (S.left input.new) (S.ended input.new) result }
-    ensures cause { HasStepCause (S.faults input.old) (S.faults input.new) (K.faults output.old) (K.faults output.new) result }
+        → HasFed session.old left (I.left input.old) (I.ended input.old) fed → Stands R.Answers R.Uploads x repository.old session.old taken (K.taken output.old) fed
+        → Goes (λ fed. Stands R.Answers R.Uploads x repository.new session.new taken (K.taken output.new) fed × (distance session.new < distance session.old)) (EndsSo R.Answers R.Fails x repository.new left (I.left input.new) (I.ended input.new) taken (K.taken output.new)) session.new left (I.left input.new) (I.ended input.new) result }
+    ensures cause { HasStepCause (I.faults input.old) (I.faults input.new) (K.faults output.old) (K.faults output.new) result }
 {
     match session.next() {
         Step::Need => read_more(session, repository, input),
@@ -66,14 +66,14 @@ fn take_step<R: Repository, S: Source, K: Sink>(
 }
 
 /// Answers the requests of the input, up to the first that ends the session.
-pub fn run_session<R: Repository, S: Source, K: Sink>(
+pub fn run_session<R: Repository, I: Input, K: Sink>(
     alloc: Global,
     repository: &mut R,
-    input: &mut S,
+    input: &mut I,
     output: &mut K,
 ) -> End
-    ensures said { EndsSo R.Answers R.Fails repository.old repository.new (S.left input.old) (S.left input.new) (S.ended input.new) (K.taken output.old) (K.taken output.new) result }
-    ensures cause { HasEndCause result (S.faults input.old) (S.faults input.new) (K.faults output.old) (K.faults output.new) }
+    ensures said { EndsSo R.Answers R.Fails repository.old repository.new (I.left input.old) (I.left input.new) (I.ended input.new) (K.taken output.old) (K.taken output.new) result }
+    ensures cause { HasEndCause result (I.faults input.old) (I.faults input.new) (K.faults output.old) (K.faults output.new) }
 {
     let Ok(session) = Session::new(alloc) else {
         return End::NoMemory;

@@ -10,4 +10,6 @@ returns c = record {
   refused_head = rows.refused_head;
   cut_put = rows.cut_put;
   stopped_put = rows.stopped_put;
+  only_uploads_stop = rows.only_uploads_stop;
+  only_open_uploads_stop = rows.only_open_uploads_stop;
 }

@@ -40,4 +40,4 @@ pub returns-in-Err-clause-sent : goal.returns-in-Err-clause-sent
 returns-in-Err-clause-sent g c =
     gives_so_far _ _ g.R.Reader.faults c.args.front.now c.args.download.now c.pieces.download (take c.pieces.at c.pieces.piece) (take c.pieces.at c.read_behind.new.piece)
     _ (g.K.Sink.taken c.pieces.output) _ (g.K.Sink.faults c.args.output.now) (g.K.Sink.faults c.pieces.output) DownloadFault
-    c.pieces.invariant.1 c.in-Err.ensures.stays (all_sent _ _ _ DownloadFault c.in_default-write.ensures.sent)
+    c.pieces.invariant.1 c.in-Err.ensures.stays (all_sent _ _ _ c.in_default-write.ensures.sent)

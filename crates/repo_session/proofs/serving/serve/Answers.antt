@@ -18,8 +18,8 @@ returns-clause-session g c = λ moments drawn.
     let rests = rests_both on last.core c.stop_open.new.core core c.stop_open.ensures.rests c.let_go.ensures.rests in (
       said.0,
       ends_map _ (HasTurns on c.args.core core said.0 moments) _ (HasTurnsPast on c.args.core moments) _ (DownloadFails on c.args.core core) said.0 c.run_session-end.result _ _ _ _ _
-          (λ requests written chain. turns_rest on c.args.core last.core core said.0 moments requests written rests (chain_turns on view moments 0 requests written _ (last, said.0) drawn chain))
-          (λ requests written count past. past_turns on view moments requests written count _ (last, said.0) drawn past)
-          (λ fails. fails_rest on c.args.core last.core core rests (chain_fails on view moments _ (last, said.0) drawn fails))
+          (λ requests written chain. turns_rest on c.args.core last.core core said.0 moments requests written rests (chain_turns on view moments 0 requests written _ last said.0 drawn chain))
+          (λ requests written count past. past_turns on view moments requests written _ last said.0 count drawn past)
+          (λ fails. fails_rest on c.args.core last.core core rests (chain_fails on view moments _ last drawn fails))
           said.1,
     )

@@ -4,13 +4,13 @@ use Rattle.session_driver.proofs.Starts.{starts_fed, starts, starts_none, stands
 use Rattle.session_driver.proofs.driver.run_session.Goals as goal
 
 pub returns-in_default-clause-said : goal.returns-in_default-clause-said
-returns-in_default-clause-said g c = starts_none g.R.Repository.Answers g.R.Repository.Fails c.args.repository.now (g.S.Source.left c.args.input.now) (g.K.Sink.taken c.args.output.now) (g.S.Source.ended c.args.input.now)
+returns-in_default-clause-said g c = starts_none g.R.Repository.Answers g.R.Repository.Fails c.args.repository.now (g.I.Input.left c.args.input.now) (g.K.Sink.taken c.args.output.now) (g.I.Input.ended c.args.input.now)
 
 pub steps-init : goal.steps-init
 steps-init g c = record {
   stands = (
     [],
-    starts_fed c.in-Ok.session (g.S.Source.left c.args.input.now) (g.S.Source.ended c.args.input.now) c.in-Ok.ensures.0 c.in-Ok.ensures.1,
+    starts_fed c.in-Ok.session (g.I.Input.left c.args.input.now) (g.I.Input.ended c.args.input.now) c.in-Ok.ensures.0 c.in-Ok.ensures.1,
     starts g.R.Repository.Answers g.R.Repository.Uploads c.args.repository.now c.in-Ok.session (g.K.Sink.taken c.args.output.now) c.in-Ok.ensures.0,
   );
   reads = omega arith;

@@ -6,9 +6,9 @@ use Rattle.session_driver.proofs.driver.run_session.Given as goal
 
 abbrev pub invariant-steps : goal.invariant-steps
 invariant-steps g l = record {
-  stands : (fed : List ℕ) × HasFed l.session (g.S.Source.left l.initial.input) (g.S.Source.left l.input) (g.S.Source.ended l.input) fed
+  stands : (fed : List ℕ) × HasFed l.session (g.I.Input.left l.initial.input) (g.I.Input.left l.input) (g.I.Input.ended l.input) fed
       × Stands g.R.Repository.Answers g.R.Repository.Uploads l.initial.repository l.repository l.session (g.K.Sink.taken l.initial.output) (g.K.Sink.taken l.output) fed;
-  reads : g.S.Source.faults l.initial.input ≤ g.S.Source.faults l.input;
+  reads : g.I.Input.faults l.initial.input ≤ g.I.Input.faults l.input;
   writes : g.K.Sink.faults l.initial.output ≤ g.K.Sink.faults l.output;
 }
 

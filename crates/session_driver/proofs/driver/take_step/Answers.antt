@@ -1,3 +1,4 @@
+use Rattle.http_session.proofs.Needs.{needs_bytes}
 use Rattle.session_driver.proofs.Asks.{asked, refuses}
 use Rattle.session_driver.proofs.Distances.{no_farther}
 use Rattle.session_driver.proofs.Dones.{done, done_cause}
@@ -12,8 +13,8 @@ returns-in-Ask-clause-goes g c = λ x left taken0 fed k at.
     let y = c.args.repository.now in
     let s = c.args.session.now in
     let u = c.next.new.self in
-    let left' = g.S.Source.left c.args.input.now in
-    let ended = g.S.Source.ended c.args.input.now in
+    let left' = g.I.Input.left c.args.input.now in
+    let ended = g.I.Input.ended c.args.input.now in
     let m = g.K.Sink.taken c.args.output.now in
     let v = g.K.Sink.taken c.make_call.new.output in
     let is = c.in-Ask.ensures.gives fed past (took_of g.R.Repository.Answers g.R.Repository.Uploads x y s fed past taken0 m stands) in
@@ -28,8 +29,8 @@ returns-in-Body-clause-goes g c = λ x left taken0 fed k at.
     let y = c.args.repository.now in
     let s = c.args.session.now in
     let u = c.next.new.self in
-    let left' = g.S.Source.left c.args.input.now in
-    let ended = g.S.Source.ended c.args.input.now in
+    let left' = g.I.Input.left c.args.input.now in
+    let ended = g.I.Input.ended c.args.input.now in
     let m = g.K.Sink.taken c.args.output.now in
     let v = g.K.Sink.taken c.take_part.new.output in
     let is = c.in-Body.ensures.gives fed past (took_of g.R.Repository.Answers g.R.Repository.Uploads x y s fed past taken0 m stands) in
@@ -44,8 +45,8 @@ returns-in-Say-clause-goes g c = λ x left taken0 fed k at.
     let y = c.args.repository.now in
     let s = c.args.session.now in
     let u = c.next.new.self in
-    let left' = g.S.Source.left c.args.input.now in
-    let ended = g.S.Source.ended c.args.input.now in
+    let left' = g.I.Input.left c.args.input.now in
+    let ended = g.I.Input.ended c.args.input.now in
     let m = g.K.Sink.taken c.args.output.now in
     let is = c.in-Say.ensures.gives fed past (took_of g.R.Repository.Answers g.R.Repository.Uploads x y s fed past taken0 m stands) in
     c.refuse_head.ensures.ends x left left' ended taken0 fed (refuses g.R.Repository.Answers g.R.Repository.Uploads x y s u fed past taken0 m stands is) (step_fed s u left left' ended fed _ c.in-Say.ensures.progresses k)
@@ -57,8 +58,8 @@ returns-in-Done-clause-goes g c = λ x left taken0 fed k at.
     let y = c.args.repository.now in
     let s = c.args.session.now in
     let u = c.next.new.self in
-    let left' = g.S.Source.left c.args.input.now in
-    let ended = g.S.Source.ended c.args.input.now in
+    let left' = g.I.Input.left c.args.input.now in
+    let ended = g.I.Input.ended c.args.input.now in
     let m = g.K.Sink.taken c.args.output.now in
     let is = c.in-Done.ensures.gives fed past (took_of g.R.Repository.Answers g.R.Repository.Uploads x y s fed past taken0 m stands) in
     done g.R.Repository.Answers g.R.Repository.Uploads g.R.Repository.Fails x y c.cut_short.new.repository s u fed past c.in-Done.end left left' taken0 m ended stands k c.in-Done.ensures.progresses.ended c.in-Done.ensures.progresses.longer is
@@ -71,19 +72,19 @@ returns-in-Need-clause-goes g c = λ x left taken0 fed k at.
     let y = c.args.repository.now in
     let s = c.args.session.now in
     let u = c.next.new.self in
-    let left' = g.S.Source.left c.args.input.now in
-    let ended = g.S.Source.ended c.args.input.now in
+    let left' = g.I.Input.left c.args.input.now in
+    let ended = g.I.Input.ended c.args.input.now in
     let m = g.K.Sink.taken c.args.output.now in
     let is = c.in-Need.ensures.gives fed past (took_of g.R.Repository.Answers g.R.Repository.Uploads x y s fed past taken0 m stands) in
     let still = is.0 in
-    nearer_than g.R.Repository.Answers g.R.Repository.Uploads g.R.Repository.Fails x c.read_more.new.repository u c.read_more.new.session s left (g.S.Source.left c.read_more.new.input) (g.S.Source.ended c.read_more.new.input) taken0 m c.read_more.result
+    nearer_than g.R.Repository.Answers g.R.Repository.Uploads g.R.Repository.Fails x c.read_more.new.repository u c.read_more.new.session s left (g.I.Input.left c.read_more.new.input) (g.I.Input.ended c.read_more.new.input) taken0 m c.read_more.result
     (no_farther g.R.Repository.Answers g.R.Repository.Uploads x y s u fed past taken0 m _ stands still.took c.in-Need.ensures.progresses)
     (c.read_more.ensures.goes x left taken0 m fed past (step_fed s u left left' ended fed _ c.in-Need.ensures.progresses k) is.1 still (stands_on g.R.Repository.Answers g.R.Repository.Uploads x y s u fed fed past taken0 m stands still.took still.quiet))
 
 pub read_more-requires : goal.read_more-requires
 read_more-requires g c =
     let past = c.requires.past in
-    (c.in-Need.ensures.gives past.0 past.1 past.2).3
+    needs_bytes c.next.new.self past.0 past.1 (c.in-Need.ensures.gives past.0 past.1 past.2)
 
 pub returns-in-Done-clause-cause : goal.returns-in-Done-clause-cause
 returns-in-Done-clause-cause g c =

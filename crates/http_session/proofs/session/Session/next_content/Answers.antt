@@ -53,7 +53,7 @@ returns-in-Content-clause-gives c fed past took =
     (content_lent s fed past c.pieces.body new c.args.closes n inv.place inv.none
     (λ framing part came r. subst (λ (h : List ℕ). IsReading framing new (part ++ take n h) (came ++ take n h)) c.held.ensures.held (c.in-Content.ensures.reads framing part came r)) t) in
     subst (λ (g : Step). Gives fed past c.lend_content.new.self g) (sym c.lend_content.ensures.step)
-    (lent, ap is_inside x.phase, within.0, sym few ∙ sym (ap (λ (v : SessionView). length v.lent) c.lend_content.ensures.new))
+    (lent, ap is_inside x.phase, within.0, sym few ∙ sym (ap (λ (v : SessionView). length v.lent) c.lend_content.ensures.new), ap (λ (v : SessionView). v.out) c.lend_content.ensures.new ∙ inv.quiet)
 
 pub returns-in-Whole-clause-gives : goal.returns-in-Whole-clause-gives
 returns-in-Whole-clause-gives c fed past took =
