@@ -1,3 +1,2 @@
 pub mod FirstHeads
 pub mod Unique
-pub mod Fronting

@@ -1,4 +1,3 @@
 pub mod Heads
 pub mod Bodies
 pub mod Requests
-pub mod Fronts

@@ -5,13 +5,11 @@
 //!   list (`Item`, `AreRequests`, specs/Requests.antt).
 //! - The list is a relation, and [`one_list`] is the law that a stream holds one list only, up to the choice between the two
 //!   causes `BadHead` and `TooManyHeaders`, which is `httparse`'s where a text is no head at all.
-//! - [`read_front`] reads what stands in front of the bytes that came so far, up to an accepted head, and its contract says
-//!   so for every way in which the stream may go on. What follows an accepted head is a content by its framing
-//!   (`HoldsBody`, specs/Bodies.antt).
+//! - What follows an accepted head is a content by its framing (`HoldsBody`, specs/Bodies.antt).
+//!
+//! Nothing runs here: http_front finds the heads, http_chunks reads the contents, and http_session takes the requests.
 #![tactic(auto)]
 
-mod front;
 mod laws;
 
-pub use front::{Front, read_front};
 pub use laws::one_list;

@@ -1,11 +1,10 @@
 //! The requests of a text.
-ghost use Rattle.http_requests.specs.Fronts.{IsWithin};
+ghost use Rattle.http_front.specs.Looks.{IsLook};
 ghost use Rattle.std.specs.Prelude.{◌≤◌, IfOk, length};
 
 use http_chunks::{ChunkStep, Chunks};
-use http_heads::{Framing, Head};
-use http_requests::{Front, read_front};
-use nx_base::NoMemory;
+use http_front::{Look, look_at};
+use http_heads::{Framing, Head, blank_len};
 use std::alloc::{AllocError, Global};
 
 /// A content that is read off a text: what is said of it, and where it ends.
@@ -81,11 +80,11 @@ fn content_behind(
     }
 }
 
-/// What stands in front of what is left of a text.
-fn next_front(alloc: Global, rest: &[u8]) -> Result<Front, NoMemory>
-    ensures { IfOk result (IsWithin (length rest.now)) }
+/// The head in front of what is left of a text.
+fn next_head(alloc: Global, rest: &[u8]) -> Look
+    ensures { IsLook rest.now result }
 {
-    read_front(alloc, rest, 0, true)
+    look_at(alloc, rest, 0)
 }
 
 /// The requests of a text, each with a bar behind it, and how it ends.
@@ -93,23 +92,20 @@ pub(crate) fn read(alloc: Global, text: &[u8]) -> Result<String, AllocError> {
     let mut said = String::new(alloc);
     let mut at = 0;
     for _ in 0..u64::MAX {
-        let Ok(front) = next_front(alloc, &text[at..]) else {
-            return String::from_str(alloc, "no memory");
-        };
-        match front {
-            Front::Blank { to } => at += to,
-            Front::Need => return Ok(said),
-            Front::Stop { inside } => {
-                said.push_str(if inside { "inside" } else { "end" })?;
+        at += blank_len(&text[at..]);
+        match next_head(alloc, &text[at..]) {
+            Look::NoMemory => return String::from_str(alloc, "no memory"),
+            Look::Open => {
+                said.push_str(if at < text.len() { "inside" } else { "end" })?;
                 return Ok(said);
             }
-            Front::Refused { why, bare } => {
+            Look::Refused { why, bare } => {
                 let item = format!(in alloc; "refused {why:?} {bare} |")?;
                 said.push_str(item.as_str())?;
                 return Ok(said);
             }
-            Front::Asked { head, from } => {
-                let content = content_behind(alloc, text, at + from, &head)?;
+            Look::Head { head, length } => {
+                let content = content_behind(alloc, text, at + length, &head)?;
                 let method = head.method;
                 let path = head.key.path.as_str();
                 let item = format!(in alloc; "{method:?} {path} {} |", content.said.as_str())?;
