@@ -1,4 +1,4 @@
--- What stands in a table: stamps, times and the number of a generation below 2 ^ 48, and sizes below 2 ^ 63.
+-- What stands in a table: timestamps, times and the number of a generation below 2 ^ 48, and sizes below 2 ^ 63.
 use Rattle.std.specs.Prelude.{ℕ, ◌^◌, Bool, true, ◌&&◌, nat_lt, List, Option}
 use Rattle.std.specs.List.{list_all}
 use Rattle.std.specs.Option.{option_map_or}
@@ -14,7 +14,7 @@ is_time n = nat_lt n (2 ^ 48)
 
 abbrev pub in_range : Asset → Bool
 in_range asset =
-    is_time asset.blob.stamp && nat_lt asset.size (2 ^ 63) && is_time asset.verified && option_map_or is_time asset.downloaded true
+    is_time asset.blob.timestamp && nat_lt asset.size (2 ^ 63) && is_time asset.verified && option_map_or is_time asset.downloaded true
 
 abbrev pub found_in_range : Option Asset → Bool
 found_in_range asset = option_map_or in_range asset true

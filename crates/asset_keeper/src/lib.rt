@@ -15,7 +15,7 @@
 //!
 //! Each keeper counts its changes: the calls of `apply`, whatever they answered.
 //!
-//! Stamps, times and the number of a generation are below 2^48, sizes below 2^63, whether a keeper
+//! Timestamps, times and the number of a generation are below 2^48, sizes below 2^63, whether a keeper
 //! tells or not.
 #![tactic(auto)]
 

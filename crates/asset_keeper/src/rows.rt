@@ -16,7 +16,7 @@ pub(crate) fn may_be_time(n: u64) -> bool
 pub(crate) fn is_in_range(asset: &Asset) -> bool
     ensures { result ≡ in_range asset.now }
 {
-    may_be_time(asset.blob.stamp)
+    may_be_time(asset.blob.timestamp)
         && asset.size < 0x8000_0000_0000_0000
         && may_be_time(asset.verified)
         && asset.downloaded.is_none_or(may_be_time)

@@ -29,7 +29,7 @@ fn row(alloc: Global, repo: &[u8], path: &[u8], size: u64) -> Result<Row, NameEr
     let blob = BlobRef {
         store: StoreName::parse(alloc, b"default")?,
         id: BlobId::made(LAST, &[0; 10]),
-        stamp: LAST,
+        timestamp: LAST,
     };
     let asset = Asset {
         blob,

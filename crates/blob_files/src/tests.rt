@@ -33,7 +33,7 @@ fn files(alloc: Global) -> Result<BlobFiles, Fail> {
     let blob = BlobRef {
         store: StoreName::parse(alloc, b"default")?,
         id: BlobId::parse(b"018bcfe5-6800-7000-8000-000000000000")?,
-        stamp: 1_700_000_000_000,
+        timestamp: 1_700_000_000_000,
     };
     Ok(BlobFiles::of(alloc, &blob, Layout::Volume)?)
 }

@@ -12,10 +12,10 @@ on_ok (Ok x) p f = f x p
 on_ok (Err e) p f = tt
 
 -- the place that the parts make
-pub joined_place : (store id front folders text place : List ℕ) → front ≡ store ++ folders → folders ≡ folders_of text → text ≡ id_text id → place ≡ front ++ text
+pub joined_place : (store id prefix folders text place : List ℕ) → prefix ≡ store ++ folders → folders ≡ folders_of text → text ≡ id_text id → place ≡ prefix ++ text
     → place ≡ volume_place store id
 unfolding volume_place
-joined_place store id front folders text place f g t p =
+joined_place store id prefix folders text place f g t p =
     p ∙ ap (λ (x : List ℕ). x ++ text) f ∙ append_assoc store folders text
     ∙ ap (λ (x : List ℕ). store ++ (x ++ text)) g ∙ ap (λ (x : List ℕ). store ++ (folders_of x ++ x)) t
 
@@ -35,10 +35,10 @@ pub regroup : (a b c d : List ℕ) → (a ++ (b ++ c)) ++ d ≡ a ++ (b ++ (c ++
 regroup a b c d = append_assoc a (b ++ c) d ∙ ap (λ (x : List ℕ). a ++ x) (append_assoc b c d)
 
 -- the file with the parts of its name
-pub file_from : (store id name front middle text end : List ℕ) (ending : Ending) → AreParts name front middle text end
-    → front ≡ store → middle ≡ folders_of text → text ≡ id_text id → end ≡ ending_of ending → name ≡ file_at (volume_place store id) ending
+pub file_from : (store id name prefix middle text end : List ℕ) (ending : Ending) → AreParts name prefix middle text end
+    → prefix ≡ store → middle ≡ folders_of text → text ≡ id_text id → end ≡ ending_of ending → name ≡ file_at (volume_place store id) ending
 unfolding volume_place
-file_from store id name front middle text end ending parts f m t e =
+file_from store id name prefix middle text end ending parts f m t e =
     parts.whole
     ∙ ap (λ (x : List ℕ). x ++ (middle ++ (text ++ end))) f
     ∙ ap (λ (x : List ℕ). store ++ (x ++ (text ++ end))) m
@@ -47,13 +47,13 @@ file_from store id name front middle text end ending parts f m t e =
     ∙ sym (regroup store (folders_of (id_text id)) (id_text id) (ending_of ending))
 
 -- the parts of a file's name
-pub file_parts : (store id name front middle text end : List ℕ) (ending : Ending) → AreParts name front middle text end
-    → length front ≡ length store → name ≡ file_at (volume_place store id) ending
-    → (front ≡ store) × (middle ≡ folders_of text) × (text ≡ id_text id) × (end ≡ ending_of ending)
+pub file_parts : (store id name prefix middle text end : List ℕ) (ending : Ending) → AreParts name prefix middle text end
+    → length prefix ≡ length store → name ≡ file_at (volume_place store id) ending
+    → (prefix ≡ store) × (middle ≡ folders_of text) × (text ≡ id_text id) × (end ≡ ending_of ending)
 unfolding volume_place
-file_parts store id name front middle text end ending parts long is =
+file_parts store id name prefix middle text end ending parts long is =
     let folders = folders_of (id_text id) in
-    let first = split front store (middle ++ (text ++ end)) (folders ++ (id_text id ++ ending_of ending)) long
+    let first = split prefix store (middle ++ (text ++ end)) (folders ++ (id_text id ++ ending_of ending)) long
     (sym parts.whole ∙ is ∙ regroup store folders (id_text id) (ending_of ending)) in
     let second = split middle folders (text ++ end) (id_text id ++ ending_of ending) (parts.folders_length ∙ sym (folders_of-length (id_text id))) first.1 in
     let third = split text (id_text id) end (ending_of ending) (parts.text_length ∙ sym (id_text-length id)) second.1 in
@@ -67,10 +67,10 @@ file-length store id ending =
     omega (arith, length-append (store ++ (folders_of (id_text id) ++ id_text id)) (ending_of ending), length-append store (folders_of (id_text id) ++ id_text id), length-append (folders_of (id_text id)) (id_text id))
 
 -- the parts that a name is split into
-pub split_parts : (name front rest middle others text end : List ℕ) → name ≡ front ++ rest → rest ≡ middle ++ others → others ≡ text ++ end
-    → length middle ≡ 24 → length text ≡ 36 → AreParts name front middle text end
-split_parts name front rest middle others text end n r o m t = record {
-  whole = n ∙ ap (λ (x : List ℕ). front ++ x) (r ∙ ap (λ (x : List ℕ). middle ++ x) o);
+pub split_parts : (name prefix rest middle others text end : List ℕ) → name ≡ prefix ++ rest → rest ≡ middle ++ others → others ≡ text ++ end
+    → length middle ≡ 24 → length text ≡ 36 → AreParts name prefix middle text end
+split_parts name prefix rest middle others text end n r o m t = record {
+  whole = n ∙ ap (λ (x : List ℕ). prefix ++ x) (r ∙ ap (λ (x : List ℕ). middle ++ x) o);
   folders_length = m;
   text_length = t;
 }

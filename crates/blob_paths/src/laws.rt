@@ -7,7 +7,7 @@ ghost use Rattle.blob_paths.specs.Ids.{IsId};
 ghost use Rattle.blob_paths.specs.Places.{file_of, IsOutsideTmp, place_of};
 ghost use Rattle.blob_paths.specs.declared.ending.Ending.{Ending};
 
-/// Two files of blobs that have one name are the same file of the same blob, but for its stamp: of one store, with one text
+/// Two files of blobs that have one name are the same file of the same blob, but for its timestamp: of one store, with one text
 /// of the id, and so with one id. And so no two blobs have one place.
 pub fn files_are_apart()
     ensures texts { (a b : BlobRef) (e f : Ending) → file_of a e ≡ file_of b f

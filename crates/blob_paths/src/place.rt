@@ -45,10 +45,10 @@ fn folders(text: &[u8]) -> [u8; 24]
 }
 
 /// One text behind another.
-fn joined(alloc: Global, front: &[u8], back: &[u8]) -> Result<Vec<u8>, NoMemory>
-    ensures { IfOk result (λ text. text.items ≡ front.now ++ back.now) }
+fn joined(alloc: Global, prefix: &[u8], back: &[u8]) -> Result<Vec<u8>, NoMemory>
+    ensures { IfOk result (λ text. text.items ≡ prefix.now ++ back.now) }
 {
-    let mut text = Vec::from_slice(alloc, front).map_err(|_| NoMemory)?;
+    let mut text = Vec::from_slice(alloc, prefix).map_err(|_| NoMemory)?;
     text.extend_from_slice(back).map_err(|_| NoMemory)?;
     Ok(text)
 }
@@ -75,8 +75,8 @@ fn place_text(alloc: Global, store: &StoreName, id: &BlobId) -> Result<Vec<u8>, 
     ensures store { store_name_of store.now ≡ Ok store.now }
 {
     let id = id.text();
-    let front = joined(alloc, store.as_bytes(), folders(&id).as_slice())?;
-    joined(alloc, front.as_slice(), id.as_slice())
+    let prefix = joined(alloc, store.as_bytes(), folders(&id).as_slice())?;
+    joined(alloc, prefix.as_slice(), id.as_slice())
 }
 
 /// The place of a blob: the name of each of its files without the ending.
@@ -105,23 +105,23 @@ pub fn file_name(alloc: Global, place: &Name, ending: Ending) -> Result<Name, No
 /// and what stands behind it.
 #[derive(Drop)]
 struct Parts<'a> {
-    front: &'a [u8],
+    prefix: &'a [u8],
     folders: &'a [u8],
     text: &'a [u8],
     end: &'a [u8],
 }
 
 /// Cuts a name into its parts, the first of which has this length.
-fn cut(name: &[u8], front: usize) -> Parts<'_>
-    requires { front + 60 ≤ length name.now }
-    ensures parts { AreParts name.now result.front.now result.folders.now result.text.now result.end.now }
-    ensures front { length result.front.now ≡ front }
+fn cut(name: &[u8], prefix: usize) -> Parts<'_>
+    requires { prefix + 60 ≤ length name.now }
+    ensures parts { AreParts name.now result.prefix.now result.folders.now result.text.now result.end.now }
+    ensures prefix { length result.prefix.now ≡ prefix }
 {
-    let (front, rest) = name.split_at(front);
+    let (prefix, rest) = name.split_at(prefix);
     let (folders, rest) = rest.split_at(FOLDERS_LENGTH);
     let (text, end) = rest.split_at(ID_LENGTH);
     Parts {
-        front,
+        prefix,
         folders,
         text,
         end,
@@ -130,10 +130,10 @@ fn cut(name: &[u8], front: usize) -> Parts<'_>
 
 /// Whether the parts of a name are those of the file of the id whose text is among them.
 fn are_those(parts: &Parts<'_>, store: &[u8], ending: &[u8]) -> bool
-    ensures { IsTrue result ↔ ((parts.now.front.now ≡ store.now)
+    ensures { IsTrue result ↔ ((parts.now.prefix.now ≡ store.now)
         × (parts.now.folders.now ≡ folders_of parts.now.text.now) × (parts.now.end.now ≡ ending.now)) }
 {
-    parts.front == store && parts.end == ending && parts.folders == folders(parts.text).as_slice()
+    parts.prefix == store && parts.end == ending && parts.folders == folders(parts.text).as_slice()
 }
 
 /// The id of which a name is that of the file with this ending.

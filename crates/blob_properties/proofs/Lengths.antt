@@ -258,11 +258,11 @@ unfolding reading
 too_long text long = let over : ltb 65536 (length text) ≡ true = grind (arith, nat_tests) in rw over refl
 
 -- no text of more than 65,536 bytes is readable, whatever stands behind
-pub readable-front : (text : List ℕ) (n : ℕ) → 65536 < n → readable_of (take n text) ≡ readable_of text
+pub readable-prefix : (text : List ℕ) (n : ℕ) → 65536 < n → readable_of (take n text) ≡ readable_of text
 unfolding readable_of reading
-readable-front text n more = by_length (cases_lt 65536 (length text)) where
+readable-prefix text n more = by_length (cases_lt 65536 (length text)) where
   by_length : (65536 < length text) ⊎ (length text ≤ 65536) → readable_of (take n text) ≡ readable_of text
   by_length (inl long) =
-      let front : 65536 < length (take n text) = omega (arith, length-take n text) in
-      bad_text (take n text) (TooLong (length (take n text))) (too_long (take n text) front) ∙ sym (bad_text text (TooLong (length text)) (too_long text long))
+      let prefix : 65536 < length (take n text) = omega (arith, length-take n text) in
+      bad_text (take n text) (TooLong (length (take n text))) (too_long (take n text) prefix) ∙ sym (bad_text text (TooLong (length text)) (too_long text long))
   by_length (inr short) = ap readable_of (take_all n text (omega arith))

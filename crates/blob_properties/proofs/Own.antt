@@ -16,12 +16,12 @@ use Rattle.nx_base.specs.Paths.{path_of, slashed_of, after_slash, behind, good_l
 use Rattle.nx_base.specs.ContentTypes.{content_type_of}
 use Rattle.java_props.specs.Kept.{Entries, put, value_of}
 use Rattle.java_props.specs.Writing.{is_special, unit_text, char_text, guarded_text, key_text, value_chars, value_text, line_text, written}
-use Rattle.blob_properties.specs.Keys.{path_key, type_key, repo_key, stamp_key, sha1_key, size_key, deleted_key, date_key, reason_key}
+use Rattle.blob_properties.specs.Keys.{path_key, type_key, repo_key, timestamp_key, sha1_key, size_key, deleted_key, date_key, reason_key}
 use Rattle.blob_properties.specs.Props.{Props, IsProps, AreOthers}
 use Rattle.blob_properties.specs.ToPairs.{plain_entries, marked_entries}
 use Rattle.blob_properties.specs.Readable.{longest_text, HasRoom}
 use Rattle.blob_properties.proofs.Puts.{written-put_new, value_of-others}
-use Rattle.blob_properties.proofs.Round.{passes, own-path, own-type, own-repo, own-stamp, own-sha1, own-size}
+use Rattle.blob_properties.proofs.Round.{passes, own-path, own-type, own-repo, own-timestamp, own-sha1, own-size}
 use Rattle.blob_properties.proofs.Lengths.{marked-text-length, mark_length, line-length}
 
 -- ---- characters
@@ -115,9 +115,9 @@ slashed-short most text h =
     let e : ltb most (length text) ≡ false = short.0 in
     grind (arith, nat_tests)
 
-read-behind : (front : ℕ) (part : Result (List ℕ) NameErr) (text : List ℕ) → behind front part ≡ Ok text → is_ok part ≡ true
-read-behind front (Ok t) text h = refl
-read-behind front (Err e) text h = absurd (true≢false (sym (ap is_ok h)))
+read-behind : (prefix : ℕ) (part : Result (List ℕ) NameErr) (text : List ℕ) → behind prefix part ≡ Ok text → is_ok part ≡ true
+read-behind prefix (Ok t) text h = refl
+read-behind prefix (Err e) text h = absurd (true≢false (sym (ap is_ok h)))
 
 after_slash-length : (text : List ℕ) → length text ≤ length (after_slash text) + 1
 after_slash-length [] = omega arith
@@ -138,24 +138,24 @@ path-short text h =
 plain-written : (props : Props) → AreOthers props.others
     → length (written (plain_entries props))
     ≡ length (written props.others) + length (line_text (path_key, props.key.path)) + length (line_text (type_key, props.content_type)) + length (line_text (repo_key, props.key.repo))
-    + length (line_text (stamp_key, decimal props.stamp)) + length (line_text (sha1_key, encode_lower props.sha1)) + length (line_text (size_key, decimal props.size))
+    + length (line_text (timestamp_key, decimal props.timestamp)) + length (line_text (sha1_key, encode_lower props.sha1)) + length (line_text (size_key, decimal props.size))
 unfolding plain_entries
 plain-written props are =
     let one = put path_key props.key.path props.others in
     let two = put type_key props.content_type one in
     let three = put repo_key props.key.repo two in
-    let four = put stamp_key (decimal props.stamp) three in
+    let four = put timestamp_key (decimal props.timestamp) three in
     let five = put sha1_key (encode_lower props.sha1) four in
     let a = written-put_new path_key props.key.path props.others (value_of-others path_key props.others own-path are) in
     let b = written-put_new type_key props.content_type one (passes path_key type_key props.key.path props.others refl ∙ value_of-others type_key props.others own-type are) in
     let c = written-put_new repo_key props.key.repo two
     (passes type_key repo_key props.content_type one refl ∙ passes path_key repo_key props.key.path props.others refl ∙ value_of-others repo_key props.others own-repo are) in
-    let d = written-put_new stamp_key (decimal props.stamp) three
-    (passes repo_key stamp_key props.key.repo two refl ∙ passes type_key stamp_key props.content_type one refl ∙ passes path_key stamp_key props.key.path props.others refl ∙ value_of-others stamp_key props.others own-stamp are) in
+    let d = written-put_new timestamp_key (decimal props.timestamp) three
+    (passes repo_key timestamp_key props.key.repo two refl ∙ passes type_key timestamp_key props.content_type one refl ∙ passes path_key timestamp_key props.key.path props.others refl ∙ value_of-others timestamp_key props.others own-timestamp are) in
     let e = written-put_new sha1_key (encode_lower props.sha1) four
-    (passes stamp_key sha1_key (decimal props.stamp) three refl ∙ passes repo_key sha1_key props.key.repo two refl ∙ passes type_key sha1_key props.content_type one refl ∙ passes path_key sha1_key props.key.path props.others refl ∙ value_of-others sha1_key props.others own-sha1 are) in
+    (passes timestamp_key sha1_key (decimal props.timestamp) three refl ∙ passes repo_key sha1_key props.key.repo two refl ∙ passes type_key sha1_key props.content_type one refl ∙ passes path_key sha1_key props.key.path props.others refl ∙ value_of-others sha1_key props.others own-sha1 are) in
     let f = written-put_new size_key (decimal props.size) five
-    (passes sha1_key size_key (encode_lower props.sha1) four refl ∙ passes stamp_key size_key (decimal props.stamp) three refl ∙ passes repo_key size_key props.key.repo two refl ∙ passes type_key size_key props.content_type one refl ∙ passes path_key size_key props.key.path props.others refl ∙ value_of-others size_key props.others own-size are) in
+    (passes sha1_key size_key (encode_lower props.sha1) four refl ∙ passes timestamp_key size_key (decimal props.timestamp) three refl ∙ passes repo_key size_key props.key.repo two refl ∙ passes type_key size_key props.content_type one refl ∙ passes path_key size_key props.key.path props.others refl ∙ value_of-others size_key props.others own-size are) in
     omega arith
 
 nothing-written : (e : Entries) → e ≡ [] → length (written e) ≡ 0
@@ -172,16 +172,16 @@ own-room props is none =
     let path = path-short props.key.path is.path in
     let content_type = name-short 255 _ props.content_type is.content_type in
     let repo = name-short 64 _ props.key.repo is.repo in
-    let stamp_small = is.in_range.1 in
+    let timestamp_small = is.in_range.1 in
     let size_small = is.in_range.0 in
-    let stamp = length-decimal-le 15 props.stamp (omega arith) (omega arith) (omega arith) in
+    let timestamp = length-decimal-le 15 props.timestamp (omega arith) (omega arith) (omega arith) in
     let size = length-decimal-le 19 props.size (omega arith) (omega arith) (omega arith) in
     let sha1_length = is.sha1_length in
     let sha1 = length-encode_with lower_digits props.sha1 in
     let a = line-short path_key props.key.path in
     let b = line-short type_key props.content_type in
     let c = line-short repo_key props.key.repo in
-    let d = line-short stamp_key (decimal props.stamp) in
+    let d = line-short timestamp_key (decimal props.timestamp) in
     let e = line-short sha1_key (encode_lower props.sha1) in
     let f = line-short size_key (decimal props.size) in
     let g = line-short deleted_key (codes "true") in

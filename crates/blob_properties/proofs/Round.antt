@@ -15,7 +15,7 @@ use Rattle.nx_base.specs.ContentTypes.{content_type_of}
 use Rattle.java_props.specs.Kept.{Entries, put, value_of}
 use Rattle.java_props.proofs.MapLaws.{set_gives, set_keeps}
 use Rattle.blob_properties.specs.declared.deleted.Deleted.{Deleted}
-use Rattle.blob_properties.specs.Keys.{path_key, type_key, repo_key, stamp_key, sha1_key, size_key, deleted_key, date_key, reason_key, is_own_key, others_of}
+use Rattle.blob_properties.specs.Keys.{path_key, type_key, repo_key, timestamp_key, sha1_key, size_key, deleted_key, date_key, reason_key, is_own_key, others_of}
 use Rattle.blob_properties.specs.Values.{number_of, time_of, size_of, sha1_of, path_in, type_in, repo_in, says_true}
 use Rattle.blob_properties.specs.Props.{Props, IsProps, IsInRange, IsMarkInRange, AreOthers}
 use Rattle.blob_properties.specs.FromPairs.{Refusal, ◌>>=◌, meant, required, required_by, mark_of, props_of}
@@ -50,9 +50,9 @@ pub own-repo : is_own_key repo_key ≡ true
 unfolding is_own_key
 own-repo = refl
 
-pub own-stamp : is_own_key stamp_key ≡ true
+pub own-timestamp : is_own_key timestamp_key ≡ true
 unfolding is_own_key
-own-stamp = refl
+own-timestamp = refl
 
 pub own-sha1 : is_own_key sha1_key ≡ true
 unfolding is_own_key
@@ -102,20 +102,20 @@ module _ (props : Props) where
   three = put repo_key props.key.repo two
 
   abbrev four : Entries
-  four = put stamp_key (decimal props.stamp) three
+  four = put timestamp_key (decimal props.timestamp) three
 
   abbrev five : Entries
   five = put sha1_key (encode_lower props.sha1) four
 
   -- a key that is none of the six has the value that it has among the other pairs
   pub plain-other : (key : List ℕ) → same_name key path_key ≡ false → same_name key type_key ≡ false → same_name key repo_key ≡ false
-      → same_name key stamp_key ≡ false → same_name key sha1_key ≡ false → same_name key size_key ≡ false
+      → same_name key timestamp_key ≡ false → same_name key sha1_key ≡ false → same_name key size_key ≡ false
       → value_of key (plain_entries props) ≡ value_of key props.others
   unfolding plain_entries
   plain-other key a b c d e f =
       passes size_key key (decimal props.size) five f
       ∙ passes sha1_key key (encode_lower props.sha1) four e
-      ∙ passes stamp_key key (decimal props.stamp) three d
+      ∙ passes timestamp_key key (decimal props.timestamp) three d
       ∙ passes repo_key key props.key.repo two c
       ∙ passes type_key key props.content_type one b
       ∙ passes path_key key props.key.path props.others a
@@ -128,19 +128,19 @@ module _ (props : Props) where
   unfolding plain_entries
   plain-sha1 = passes size_key sha1_key (decimal props.size) five refl ∙ set_gives sha1_key (encode_lower props.sha1) four
 
-  pub plain-stamp : value_of stamp_key (plain_entries props) ≡ Some (decimal props.stamp)
+  pub plain-timestamp : value_of timestamp_key (plain_entries props) ≡ Some (decimal props.timestamp)
   unfolding plain_entries
-  plain-stamp =
-      passes size_key stamp_key (decimal props.size) five refl
-      ∙ passes sha1_key stamp_key (encode_lower props.sha1) four refl
-      ∙ set_gives stamp_key (decimal props.stamp) three
+  plain-timestamp =
+      passes size_key timestamp_key (decimal props.size) five refl
+      ∙ passes sha1_key timestamp_key (encode_lower props.sha1) four refl
+      ∙ set_gives timestamp_key (decimal props.timestamp) three
 
   pub plain-repo : value_of repo_key (plain_entries props) ≡ Some props.key.repo
   unfolding plain_entries
   plain-repo =
       passes size_key repo_key (decimal props.size) five refl
       ∙ passes sha1_key repo_key (encode_lower props.sha1) four refl
-      ∙ passes stamp_key repo_key (decimal props.stamp) three refl
+      ∙ passes timestamp_key repo_key (decimal props.timestamp) three refl
       ∙ set_gives repo_key props.key.repo two
 
   pub plain-type : value_of type_key (plain_entries props) ≡ Some props.content_type
@@ -148,7 +148,7 @@ module _ (props : Props) where
   plain-type =
       passes size_key type_key (decimal props.size) five refl
       ∙ passes sha1_key type_key (encode_lower props.sha1) four refl
-      ∙ passes stamp_key type_key (decimal props.stamp) three refl
+      ∙ passes timestamp_key type_key (decimal props.timestamp) three refl
       ∙ passes repo_key type_key props.key.repo two refl
       ∙ set_gives type_key props.content_type one
 
@@ -157,7 +157,7 @@ module _ (props : Props) where
   plain-path =
       passes size_key path_key (decimal props.size) five refl
       ∙ passes sha1_key path_key (encode_lower props.sha1) four refl
-      ∙ passes stamp_key path_key (decimal props.stamp) three refl
+      ∙ passes timestamp_key path_key (decimal props.timestamp) three refl
       ∙ passes repo_key path_key props.key.repo two refl
       ∙ passes type_key path_key props.content_type one refl
       ∙ set_gives path_key props.key.path props.others
@@ -167,7 +167,7 @@ module _ (props : Props) where
   plain-others are =
       others-put size_key (decimal props.size) five own-size
       ∙ others-put sha1_key (encode_lower props.sha1) four own-sha1
-      ∙ others-put stamp_key (decimal props.stamp) three own-stamp
+      ∙ others-put timestamp_key (decimal props.timestamp) three own-timestamp
       ∙ others-put repo_key props.key.repo two own-repo
       ∙ others-put type_key props.content_type one own-type
       ∙ others-put path_key props.key.path props.others own-path
@@ -182,12 +182,12 @@ module _ (props : Props) where
       let b = length-put_new type_key props.content_type one (passes path_key type_key props.key.path props.others refl ∙ absent type_key own-type) in
       let c = length-put_new repo_key props.key.repo two
       (passes type_key repo_key props.content_type one refl ∙ passes path_key repo_key props.key.path props.others refl ∙ absent repo_key own-repo) in
-      let d = length-put_new stamp_key (decimal props.stamp) three
-      (passes repo_key stamp_key props.key.repo two refl ∙ passes type_key stamp_key props.content_type one refl ∙ passes path_key stamp_key props.key.path props.others refl ∙ absent stamp_key own-stamp) in
+      let d = length-put_new timestamp_key (decimal props.timestamp) three
+      (passes repo_key timestamp_key props.key.repo two refl ∙ passes type_key timestamp_key props.content_type one refl ∙ passes path_key timestamp_key props.key.path props.others refl ∙ absent timestamp_key own-timestamp) in
       let e = length-put_new sha1_key (encode_lower props.sha1) four
-      (passes stamp_key sha1_key (decimal props.stamp) three refl ∙ passes repo_key sha1_key props.key.repo two refl ∙ passes type_key sha1_key props.content_type one refl ∙ passes path_key sha1_key props.key.path props.others refl ∙ absent sha1_key own-sha1) in
+      (passes timestamp_key sha1_key (decimal props.timestamp) three refl ∙ passes repo_key sha1_key props.key.repo two refl ∙ passes type_key sha1_key props.content_type one refl ∙ passes path_key sha1_key props.key.path props.others refl ∙ absent sha1_key own-sha1) in
       let f = length-put_new size_key (decimal props.size) five
-      (passes sha1_key size_key (encode_lower props.sha1) four refl ∙ passes stamp_key size_key (decimal props.stamp) three refl ∙ passes repo_key size_key props.key.repo two refl ∙ passes type_key size_key props.content_type one refl ∙ passes path_key size_key props.key.path props.others refl ∙ absent size_key own-size) in
+      (passes sha1_key size_key (encode_lower props.sha1) four refl ∙ passes timestamp_key size_key (decimal props.timestamp) three refl ∙ passes repo_key size_key props.key.repo two refl ∙ passes type_key size_key props.content_type one refl ∙ passes path_key size_key props.key.path props.others refl ∙ absent size_key own-size) in
       omega arith
 
 -- ---- a mark
@@ -283,13 +283,13 @@ said_back props is =
     let path = required-ok path_key path_in e props.key.path props.key.path (kept props.deleted plain path_key refl refl refl ∙ plain-path props) (ap result_ok is.path) in
     let content_type = required-ok type_key type_in e props.content_type props.content_type (kept props.deleted plain type_key refl refl refl ∙ plain-type props) (ap result_ok is.content_type) in
     let repo = required-ok repo_key repo_in e props.key.repo props.key.repo (kept props.deleted plain repo_key refl refl refl ∙ plain-repo props) (ap result_ok is.repo) in
-    let stamp = required-ok stamp_key time_of e (decimal props.stamp) props.stamp (kept props.deleted plain stamp_key refl refl refl ∙ plain-stamp props) (time-decimal props.stamp is.in_range.1) in
+    let timestamp = required-ok timestamp_key time_of e (decimal props.timestamp) props.timestamp (kept props.deleted plain timestamp_key refl refl refl ∙ plain-timestamp props) (time-decimal props.timestamp is.in_range.1) in
     let sha1 = required-ok sha1_key sha1_of e (encode_lower props.sha1) props.sha1 (kept props.deleted plain sha1_key refl refl refl ∙ plain-sha1 props)
     (ap result_ok (decode_sized-encode_lower props.sha1 20 is.sha1_length is.sha1_bytes)) in
     let size = required-ok size_key size_of e (decimal props.size) props.size (kept props.deleted plain size_key refl refl refl ∙ plain-size props) (size-decimal props.size is.in_range.0) in
     let mark = kept-mark props.deleted plain (no-mark props are).0 is.in_range.2 in
     let others = kept-others props.deleted plain ∙ plain-others props are in
-    rw (path, content_type, repo, stamp, sha1, size, mark, others) refl
+    rw (path, content_type, repo, timestamp, sha1, size, mark, others) refl
 
 -- how many pairs there are
 pub with_deleted-length : (deleted : Option Deleted) (props : Props) → AreOthers props.others
@@ -302,17 +302,17 @@ with_deleted-length (Some mark) props are =
     omega arith
 
 -- pairs that were set one after another
-pub plain_built : (props : Props) (path content_type repo stamp sha1 size : List ℕ) (p0 p1 p2 p3 p4 p5 p6 : Entries)
+pub plain_built : (props : Props) (path content_type repo timestamp sha1 size : List ℕ) (p0 p1 p2 p3 p4 p5 p6 : Entries)
     → p0 ≡ props.others → p1 ≡ put path_key path p0 → p2 ≡ put type_key content_type p1 → p3 ≡ put repo_key repo p2
-    → p4 ≡ put stamp_key stamp p3 → p5 ≡ put sha1_key sha1 p4 → p6 ≡ put size_key size p5
+    → p4 ≡ put timestamp_key timestamp p3 → p5 ≡ put sha1_key sha1 p4 → p6 ≡ put size_key size p5
     → path ≡ props.key.path → content_type ≡ props.content_type → repo ≡ props.key.repo
-    → stamp ≡ decimal props.stamp → sha1 ≡ encode_lower props.sha1 → size ≡ decimal props.size
+    → timestamp ≡ decimal props.timestamp → sha1 ≡ encode_lower props.sha1 → size ≡ decimal props.size
     → p6 ≡ plain_entries props
 unfolding plain_entries
-plain_built props path content_type repo stamp sha1 size p0 p1 p2 p3 p4 p5 p6 e0 e1 e2 e3 e4 e5 e6 path-is type-is repo-is stamp-is sha1-is size-is =
+plain_built props path content_type repo timestamp sha1 size p0 p1 p2 p3 p4 p5 p6 e0 e1 e2 e3 e4 e5 e6 path-is type-is repo-is timestamp-is sha1-is size-is =
     e6 ∙ ap₂ (put size_key) size-is
     (e5 ∙ ap₂ (put sha1_key) sha1-is
-    (e4 ∙ ap₂ (put stamp_key) stamp-is
+    (e4 ∙ ap₂ (put timestamp_key) timestamp-is
     (e3 ∙ ap₂ (put repo_key) repo-is
     (e2 ∙ ap₂ (put type_key) type-is
     (e1 ∙ ap₂ (put path_key) path-is e0)))))

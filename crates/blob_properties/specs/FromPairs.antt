@@ -5,7 +5,7 @@ use Rattle.nx_base.specs.Given.{given}
 use Rattle.blob_properties.specs.declared.blob_props_err.BlobPropsErr.{BlobPropsErr}
 use Rattle.blob_properties.specs.declared.blob_props_err.BlobPropsErr.TheVariants as refused
 use Rattle.blob_properties.specs.declared.deleted.Deleted.{Deleted}
-use Rattle.blob_properties.specs.Keys.{path_key, type_key, repo_key, stamp_key, sha1_key, size_key, deleted_key, date_key, reason_key, others_of}
+use Rattle.blob_properties.specs.Keys.{path_key, type_key, repo_key, timestamp_key, sha1_key, size_key, deleted_key, date_key, reason_key, others_of}
 use Rattle.blob_properties.specs.Values.{path_in, type_in, repo_in, time_of, sha1_of, size_of, says_true}
 use Rattle.blob_properties.specs.Props.{Props}
 
@@ -46,7 +46,7 @@ props_of pairs =
     required path_key path_in pairs >>= λ path.
     required type_key type_in pairs >>= λ content_type.
     required repo_key repo_in pairs >>= λ repo.
-    required stamp_key time_of pairs >>= λ stamp.
+    required timestamp_key time_of pairs >>= λ timestamp.
     required sha1_key sha1_of pairs >>= λ sha1.
     required size_key size_of pairs >>= λ size.
     Ok (record {
@@ -54,7 +54,7 @@ props_of pairs =
       content_type = content_type;
       size = size;
       sha1 = sha1;
-      stamp = stamp;
+      timestamp = timestamp;
       deleted = mark_of pairs;
       others = others_of pairs;
     })

@@ -13,8 +13,8 @@ type_key = codes "@BlobStore.content-type"
 abbrev pub repo_key : List ℕ
 repo_key = codes "@Bucket.repo-name"
 
-abbrev pub stamp_key : List ℕ
-stamp_key = codes "creationTime"
+abbrev pub timestamp_key : List ℕ
+timestamp_key = codes "creationTime"
 
 abbrev pub sha1_key : List ℕ
 sha1_key = codes "sha1"
@@ -38,7 +38,7 @@ is_asset_key key = same_name key path_key || same_name key type_key || same_name
 
 -- a key of the content
 abbrev pub is_content_key : List ℕ → Bool
-is_content_key key = same_name key stamp_key || same_name key sha1_key || same_name key size_key
+is_content_key key = same_name key timestamp_key || same_name key sha1_key || same_name key size_key
 
 -- a key of a mark
 abbrev pub is_mark_key : List ℕ → Bool

@@ -14,7 +14,7 @@ pub record Props : Type 0 where
   pub content_type : List ℕ
   pub size : ℕ
   pub sha1 : List ℕ
-  pub stamp : ℕ
+  pub timestamp : ℕ
   -- the mark of a blob that is deleted
   pub deleted : Option Deleted
   -- the pairs that have no meaning here, which are kept and written again
@@ -39,7 +39,7 @@ AreOthers pairs = list_all (λ p. not (is_own_key p.0)) pairs ≡ true
 
 -- what each `BlobProps` keeps
 abbrev pub IsInRange : Props → Type 0
-IsInRange props = (props.size < 2 ^ 63) × (props.stamp < 2 ^ 48) × IsMarkInRange props.deleted × AreOthers props.others
+IsInRange props = (props.size < 2 ^ 63) × (props.timestamp < 2 ^ 48) × IsMarkInRange props.deleted × AreOthers props.others
 
 -- the properties of some blob: the texts are what their rules ask for, and the digest has twenty bytes
 pub record IsProps (props : Props) : Type 0 where

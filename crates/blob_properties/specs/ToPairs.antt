@@ -3,7 +3,7 @@ use Rattle.std.specs.Prelude.{ℕ, List, Option, Some, None, decimal, codes}
 use Rattle.hex.specs.Hex.{encode_lower}
 use Rattle.java_props.specs.Kept.{Entries, put}
 use Rattle.blob_properties.specs.declared.deleted.Deleted.{Deleted}
-use Rattle.blob_properties.specs.Keys.{path_key, type_key, repo_key, stamp_key, sha1_key, size_key, deleted_key, date_key, reason_key}
+use Rattle.blob_properties.specs.Keys.{path_key, type_key, repo_key, timestamp_key, sha1_key, size_key, deleted_key, date_key, reason_key}
 use Rattle.blob_properties.specs.Props.{Props}
 
 -- the pairs without a mark: numbers without leading zeros, the digest in lower case, and the other pairs as they came
@@ -11,7 +11,7 @@ unfoldable pub plain_entries : Props → Entries
 plain_entries props =
     put size_key (decimal props.size)
     (put sha1_key (encode_lower props.sha1)
-    (put stamp_key (decimal props.stamp)
+    (put timestamp_key (decimal props.timestamp)
     (put repo_key props.key.repo
     (put type_key props.content_type
     (put path_key props.key.path props.others)))))

@@ -16,7 +16,7 @@ number_of most end text =
     if nat_lt 0 (length text) && nat_le (length text) most && list_all is_ascii_digit text && nat_lt (digits_value 10 text) end
     then Some (digits_value 10 text) else None
 
--- a time in milliseconds: of a stamp, or of a mark
+-- a time in milliseconds: of a timestamp, or of a mark
 abbrev pub time_of : List ℕ → Option ℕ
 time_of text = number_of 15 (2 ^ 48) text
 

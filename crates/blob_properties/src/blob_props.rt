@@ -15,7 +15,7 @@ pub struct BlobProps {
     /// The digest of the content.
     pub sha1: [u8; 20],
     /// The time in milliseconds at which it was made, or later if blobs came faster.
-    pub stamp: u64,
+    pub timestamp: u64,
     /// Its mark, if it is deleted.
     pub deleted: Option<Deleted>,
     /// The pairs of all other keys.
@@ -32,7 +32,7 @@ impl Model for BlobProps {
       content_type = p.content_type;
       size = p.size;
       sha1 = p.sha1;
-      stamp = p.stamp;
+      timestamp = p.timestamp;
       deleted = p.deleted;
       others = p.others;
     } };
@@ -42,7 +42,7 @@ impl Model for BlobProps {
       content_type = p.content_type;
       size = p.size;
       sha1 = p.sha1;
-      stamp = p.stamp;
+      timestamp = p.timestamp;
       deleted = p.deleted;
       others = p.others;
     }) };

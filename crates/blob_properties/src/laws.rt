@@ -19,7 +19,7 @@ pub fn there_is_room()
 {}
 
 /// Whether a text is readable, and what it says, is seen from its first 65,537 bytes.
-pub fn the_front_is_enough()
+pub fn the_prefix_is_enough()
     ensures { (text : List ℕ) (n : ℕ) → 65536 < n → readable_of (take n text) ≡ readable_of text }
 {}
 

@@ -32,7 +32,7 @@ pub use blob_props::BlobProps;
 pub use blob_props_err::BlobPropsErr;
 pub use deleted::Deleted;
 pub use found::{Found, Verdict};
-pub use laws::{pairs_say_the_same, plain_values_stay, the_front_is_enough, there_is_room};
+pub use laws::{pairs_say_the_same, plain_values_stay, the_prefix_is_enough, there_is_room};
 pub use nx_base::Marked;
 pub use pairs::to_pairs;
 pub use props_read::PropsRead;

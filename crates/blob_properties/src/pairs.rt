@@ -76,7 +76,7 @@ pub fn plain_pairs(alloc: Global, props: &BlobProps) -> Result<Pairs, NoMemory>
     ensures room { IfOk result (λ pairs. length pairs ≤ length props.now.others + 6) }
     ensures blob { OnOk result (IsProps props.now) }
 {
-    let stamp = number_text(alloc, props.stamp)?;
+    let timestamp = number_text(alloc, props.timestamp)?;
     let sha1 = sha1_text(alloc, props.sha1)?;
     let size = number_text(alloc, props.size)?;
     let mut pairs = copied(alloc, &props.others)?;
@@ -87,7 +87,7 @@ pub fn plain_pairs(alloc: Global, props: &BlobProps) -> Result<Pairs, NoMemory>
         props.content_type.as_str(),
     )?;
     put(&mut pairs, own_keys::REPO, props.key.repo.as_str())?;
-    put(&mut pairs, own_keys::STAMP, stamp.as_str())?;
+    put(&mut pairs, own_keys::STAMP, timestamp.as_str())?;
     put(&mut pairs, own_keys::SHA1, sha1.as_str())?;
     put(&mut pairs, own_keys::SIZE, size.as_str())?;
     Ok(pairs)

@@ -5,7 +5,7 @@ ghost use Rattle.nx_base.specs.Given.{given};
 ghost use Rattle.nx_base.specs.NameErr.{Gives as NameGives};
 ghost use Rattle.nx_base.specs.declared.name_err.NameErr.{NameErr};
 ghost use Rattle.java_props.specs.Kept.{put, value_of};
-ghost use Rattle.blob_properties.specs.Keys.{path_key, type_key, repo_key, stamp_key, sha1_key, size_key, deleted_key, date_key, is_own_key, others_of};
+ghost use Rattle.blob_properties.specs.Keys.{path_key, type_key, repo_key, timestamp_key, sha1_key, size_key, deleted_key, date_key, is_own_key, others_of};
 ghost use Rattle.blob_properties.specs.Props.{IsMarkInRange, AreOthers};
 ghost use Rattle.blob_properties.specs.Values.{time_of, size_of, sha1_of, path_in, type_in, repo_in, says_true};
 ghost use Rattle.blob_properties.specs.FromPairs.{Gives, meant, required, mark_of, props_of};
@@ -71,8 +71,8 @@ fn repo(alloc: Global, pairs: &Pairs) -> Result<RepoName, BlobPropsErr>
 }
 
 /// The time at which the blob was made.
-fn stamp(pairs: &Pairs) -> Result<u64, BlobPropsErr>
-    ensures value { Gives (required stamp_key time_of pairs.now) result }
+fn timestamp(pairs: &Pairs) -> Result<u64, BlobPropsErr>
+    ensures value { Gives (required timestamp_key time_of pairs.now) result }
     ensures range { IfOk result (λ n. n < 2 ^ 48) }
 {
     let key = own_keys::STAMP;
@@ -80,7 +80,7 @@ fn stamp(pairs: &Pairs) -> Result<u64, BlobPropsErr>
         return Err(BlobPropsErr::Missing { key });
     };
     match values::number(text, 15, TIMES_END) {
-        Some(stamp) => Ok(stamp),
+        Some(timestamp) => Ok(timestamp),
         None => Err(BlobPropsErr::BadValue { key }),
     }
 }
@@ -186,7 +186,7 @@ pub fn of_pairs(alloc: Global, pairs: &Pairs) -> Result<BlobProps, BlobPropsErr>
     let path = path(alloc, pairs)?;
     let content_type = content_type(alloc, pairs)?;
     let repo = repo(alloc, pairs)?;
-    let stamp = stamp(pairs)?;
+    let timestamp = timestamp(pairs)?;
     let sha1 = sha1(pairs)?;
     let size = size(pairs)?;
     let Ok(deleted) = mark(alloc, pairs) else {
@@ -200,7 +200,7 @@ pub fn of_pairs(alloc: Global, pairs: &Pairs) -> Result<BlobProps, BlobPropsErr>
         content_type,
         size,
         sha1,
-        stamp,
+        timestamp,
         deleted,
         others,
     })

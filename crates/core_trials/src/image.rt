@@ -19,7 +19,11 @@ const BYTES: &str = ".bytes";
 enum Found {
     /// It isn't readable, its blob is deleted, or the bytes aren't those that it describes.
     Nothing,
-    Blob { path: Path, text: Text, stamp: u64 },
+    Blob {
+        path: Path,
+        text: Text,
+        timestamp: u64,
+    },
     /// A blob that the script doesn't make.
     Stray,
 }
@@ -35,21 +39,21 @@ fn blob_of(props: &BlobProps, bytes: &[u8]) -> Found {
         (Some(path), Some(text)) if is_ours => Found::Blob {
             path,
             text,
-            stamp: props.stamp,
+            timestamp: props.timestamp,
         },
         _ => Found::Stray,
     }
 }
 
 /// The name of the bytes that belong to a properties file.
-fn bytes_name(alloc: Global, front: &str) -> Result<Name, Stop> {
-    let text = format!(in alloc; "{front}{BYTES}")?;
+fn bytes_name(alloc: Global, prefix: &str) -> Result<Name, Stop> {
+    let text = format!(in alloc; "{prefix}{BYTES}")?;
     Ok(Name::parse(alloc, &text)?)
 }
 
 /// The blob of a file.
 fn blob_at(alloc: Global, image: &MemDisk, name: &Name) -> Result<Found, Stop> {
-    let Some(front) = name.as_str().strip_suffix(PROPERTIES) else {
+    let Some(prefix) = name.as_str().strip_suffix(PROPERTIES) else {
         return Ok(Found::Nothing);
     };
     let Some(text) = image.value(name) else {
@@ -58,13 +62,13 @@ fn blob_at(alloc: Global, image: &MemDisk, name: &Name) -> Result<Found, Stop> {
     let PropsRead::Good(props) = read_blob(alloc, text)? else {
         return Ok(Found::Nothing);
     };
-    match image.value(&bytes_name(alloc, front)?) {
+    match image.value(&bytes_name(alloc, prefix)?) {
         Some(bytes) => Ok(blob_of(&props, bytes)),
         None => Ok(Found::Nothing),
     }
 }
 
-/// The newest stamp of each path, and the contents that go with them.
+/// The newest timestamp of each path, and the contents that go with them.
 #[derive(Clone, Copy)]
 struct Newest {
     contents: Contents,
@@ -80,13 +84,13 @@ impl Newest {
     };
 
     /// With a blob more.
-    fn see(&mut self, path: Path, text: Text, stamp: u64) {
+    fn see(&mut self, path: Path, text: Text, timestamp: u64) {
         let newest = match path {
             Path::Changed => &mut self.changed,
             Path::Kept => &mut self.kept,
         };
-        if newest.is_none_or(|before| before < stamp) {
-            *newest = Some(stamp);
+        if newest.is_none_or(|before| before < timestamp) {
+            *newest = Some(timestamp);
             self.contents = self.contents.with(path, Some(text));
         }
     }
@@ -100,7 +104,11 @@ pub fn contents_in(alloc: Global, image: &mut MemDisk) -> Result<Option<Contents
     for name in &names {
         match blob_at(alloc, image, name)? {
             Found::Nothing => {}
-            Found::Blob { path, text, stamp } => newest.see(path, text, stamp),
+            Found::Blob {
+                path,
+                text,
+                timestamp,
+            } => newest.see(path, text, timestamp),
             Found::Stray => return Ok(None),
         }
     }

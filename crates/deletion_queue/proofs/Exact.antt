@@ -15,6 +15,6 @@ rest_cmp x y = ordering_then (name_cmp x.0 y.0) (last_cmp x.1 y.1)
 
 pub exact_places : CmpEqualImpliesEq place_cmp
 exact_places a b h =
-    ap (λ (p : ℕ × (List ℕ × (List ℕ × ℕ))). record { at = p.0; blob = record { store = p.1.0; id = p.1.1.0; stamp = p.1.1.1 } })
+    ap (λ (p : ℕ × (List ℕ × (List ℕ × ℕ))). record { at = p.0; blob = record { store = p.1.0; id = p.1.1.0; timestamp = p.1.1.1 } })
     (exact_pairs nat_cmp rest_cmp exact_unsigned (exact_pairs name_cmp last_cmp exact_bytes (exact_pairs name_cmp nat_cmp exact_bytes exact_unsigned))
-    (a.at, (a.blob.store, (a.blob.id, a.blob.stamp))) (b.at, (b.blob.store, (b.blob.id, b.blob.stamp))) h)
+    (a.at, (a.blob.store, (a.blob.id, a.blob.timestamp))) (b.at, (b.blob.store, (b.blob.id, b.blob.timestamp))) h)

@@ -9,4 +9,4 @@ pub place_cmp_total : IsTotalOrder place_cmp
 place_cmp_total =
     then_total (on_total (λ (p : QueuePlace). p.at) nat_cmp_total)
     (then_total (on_total (λ (p : QueuePlace). p.blob.store) nat_list_cmp_total)
-    (then_total (on_total (λ (p : QueuePlace). p.blob.id) nat_list_cmp_total) (on_total (λ (p : QueuePlace). p.blob.stamp) nat_cmp_total)))
+    (then_total (on_total (λ (p : QueuePlace). p.blob.id) nat_list_cmp_total) (on_total (λ (p : QueuePlace). p.blob.timestamp) nat_cmp_total)))

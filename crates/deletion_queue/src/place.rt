@@ -1,4 +1,4 @@
-//! Places in the queue, and their order: by time, then by store, by id and by stamp.
+//! Places in the queue, and their order: by time, then by store, by id and by timestamp.
 ghost use Rattle.std.specs.Ordering.{eq_by_cmp};
 ghost use Rattle.deletion_queue.specs.Order.{place_cmp};
 
@@ -65,6 +65,6 @@ impl Ord for QueuePlace {
             .cmp(&other.at)
             .then(self.blob.store.cmp(&other.blob.store))
             .then(self.blob.id.as_bytes().cmp(other.blob.id.as_bytes()))
-            .then(self.blob.stamp.cmp(&other.blob.stamp))
+            .then(self.blob.timestamp.cmp(&other.blob.timestamp))
     }
 }

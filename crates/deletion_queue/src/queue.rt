@@ -97,7 +97,7 @@ impl Queue {
         Some(deletion)
     }
 
-    /// The first element behind the place in the order of time, store, id and stamp, or the first of all.
+    /// The first element behind the place in the order of time, store, id and timestamp, or the first of all.
     pub fn after(&self, place: Option<&QueuePlace>) -> Option<(&BlobRef, &Deletion)>
         ensures { MatchOption result (NoneBehind self.now (option_copied place.entry)) (λ e. IsNext self.now (option_copied place.entry) e.0.now e.1.now) }
     {

@@ -1,4 +1,4 @@
--- What a lent value shows, and what a map of names shows.
+-- What a borrowed value shows, and what a map of names shows.
 use Rattle.std.specs.Prelude.{List, ℕ, Option, Some, None, option_map}
 use Rattle.std.specs.BTreeMap.{get_by_text}
 use Rattle.disk_model.specs.declared.memory.shelf.Shelf.{Shelf}

@@ -190,7 +190,7 @@ fn reads(rt: HostRuntime) -> Result<(), Stop> {
         let mut disk = one_file(alloc, Vec::new(alloc), None)?;
         assert_eq!(rt; replace_small(&mut disk, &a, &long[..len]), Ok(()));
         match disk.read_small(&a) {
-            Ok(Some(front)) => assert_eq!(rt; front.len(), read),
+            Ok(Some(prefix)) => assert_eq!(rt; prefix.len(), read),
             _ => return Err(Stop::Test),
         }
     }

@@ -42,8 +42,8 @@ whole_chunk text content p =
       room = omega (arith, ap length p.content_is, length-append p.had p.part, p.sized, p.room);
     }
 
-front_is : (bytes : List ℕ) (n : ℕ) (l : ChunkLine) → HasLine bytes l (drop n bytes) → n ≡ length (print_chunk_line l) → take n bytes ≡ print_chunk_line l
-front_is bytes n l has len = ap (take n) has.parts ∙ take_at (print_chunk_line l) (drop n bytes) n (sym len)
+prefix_is : (bytes : List ℕ) (n : ℕ) (l : ChunkLine) → HasLine bytes l (drop n bytes) → n ≡ length (print_chunk_line l) → take n bytes ≡ print_chunk_line l
+prefix_is bytes n l has len = ap (take n) has.parts ∙ take_at (print_chunk_line l) (drop n bytes) n (sym len)
 
 -- a size line with a size
 pub into_chunk : (text content bytes : List ℕ) (n : ℕ) (l : ChunkLine) → AreChunks text content → HasLine bytes l (drop n bytes) → n ≡ length (print_chunk_line l) → 0 < chunk_size l
@@ -55,7 +55,7 @@ into_chunk text content bytes n l t has len some room = record {
   part = [];
   chunks = t;
   valid = has.short;
-  text_is = ap (λ (u : List ℕ). text ++ u) (front_is bytes n l has len ∙ sym (append-nil (print_chunk_line l)));
+  text_is = ap (λ (u : List ℕ). text ++ u) (prefix_is bytes n l has len ∙ sym (append-nil (print_chunk_line l)));
   content_is = sym (append-nil content);
   sized = omega arith;
   some = some;
@@ -74,7 +74,7 @@ into_trailer text content bytes n l t has len zero = record {
   valid = has.short;
   ends = zero;
   trailers = tt;
-  text_is = ap (λ (u : List ℕ). text ++ u) (front_is bytes n l has len ∙ sym (append-nil (print_chunk_line l)));
+  text_is = ap (λ (u : List ℕ). text ++ u) (prefix_is bytes n l has len ∙ sym (append-nil (print_chunk_line l)));
   taken_is = refl;
   room = omega arith;
 }
@@ -110,7 +110,7 @@ one_trailer text content bytes taken k t lf some ret room =
 pub last_trailer : (text content bytes : List ℕ) (taken : ℕ) → IsLast taken text content → IsFirstFeed bytes 1 → get_or bytes 0 0 ≡ 13 → taken + 2 ≤ 16384
     → IsBody (text ++ take 2 bytes) content
 last_trailer text content bytes taken t lf ret room = record {
-  front = text;
+  prefix = text;
   taken = taken;
   last = t;
   text_is = ap (λ (u : List ℕ). text ++ u) (line_parts bytes 1 lf (omega arith) ret);

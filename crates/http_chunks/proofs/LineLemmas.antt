@@ -23,9 +23,9 @@ length-line bytes rest line has = (
   omega (arith, ap length has.parts, length-append (print_chunk_line line) rest),
 )
 
-pub line_from_front : (bytes : List ℕ) (n size : ℕ) (line : ChunkLine) → IsChunkLineAt (take line_limit bytes) n size line
+pub line_from_prefix : (bytes : List ℕ) (n size : ℕ) (line : ChunkLine) → IsChunkLineAt (take line_limit bytes) n size line
     → HasLine bytes line (drop n bytes) × (n ≡ length (print_chunk_line line)) × (size ≡ chunk_size line)
-line_from_front bytes n size line at =
+line_from_prefix bytes n size line at =
     let whole : bytes ≡ print_chunk_line line ++ (drop n (take line_limit bytes) ++ drop line_limit bytes) =
     sym (take-append-drop line_limit bytes) ∙ ap (λ (t : List ℕ). t ++ drop line_limit bytes) at.reads.1
     ∙ append_assoc (print_chunk_line line) (drop n (take line_limit bytes)) (drop line_limit bytes) in
@@ -51,8 +51,8 @@ bad_from_never bytes never = (
   ],
 )
 
-pub open_from_front : (bytes : List ℕ) → length bytes < line_limit → HasNoChunkLine (take line_limit bytes) → MayBecomeChunkLine (take line_limit bytes) → IsOpenLine bytes
-open_from_front bytes lt none may = record {
+pub open_from_prefix : (bytes : List ℕ) → length bytes < line_limit → HasNoChunkLine (take line_limit bytes) → MayBecomeChunkLine (take line_limit bytes) → IsOpenLine bytes
+open_from_prefix bytes lt none may = record {
   short = lt;
   none = subst HasNoChunkLine (take_all line_limit bytes (omega arith)) none;
   open_end = subst MayBecomeChunkLine (take_all line_limit bytes (omega arith)) may;
@@ -63,9 +63,9 @@ pub line_not_bad : (bytes rest : List ℕ) (line : ChunkLine) → HasLine bytes 
 line_not_bad bytes rest line has bad =
     let n = length (print_chunk_line line) in
     let cut : List ℕ = take line_limit bytes in
-    let front : take n cut ≡ print_chunk_line line =
+    let prefix : take n cut ≡ print_chunk_line line =
     take-take n line_limit bytes has.short.short ∙ ap (take n) has.parts ∙ take_at (print_chunk_line line) rest n refl in
-    bad.0 line (drop n cut) (has.short.valid, sym (take-append-drop n cut) ∙ ap (λ (t : List ℕ). t ++ drop n cut) front)
+    bad.0 line (drop n cut) (has.short.valid, sym (take-append-drop n cut) ∙ ap (λ (t : List ℕ). t ++ drop n cut) prefix)
 
 pub line_not_open : (bytes rest : List ℕ) (line : ChunkLine) → HasLine bytes line rest → IsOpenLine bytes → ⊥
 line_not_open bytes rest line has open_line = open_line.none line rest (has.short.valid, has.parts)

@@ -51,8 +51,8 @@ too_large-append Done bytes more total t = absurd t
 
 reaches-append : (stream more content rest : List ℕ) (place : Place) → Reaches stream place content rest → Reaches (stream ++ more) place content (rest ++ more)
 reaches-append stream more content rest place r = record {
-  front = r.front;
-  parts = ap (λ (t : List ℕ). t ++ more) r.parts ∙ append_assoc r.front rest more;
+  prefix = r.prefix;
+  parts = ap (λ (t : List ℕ). t ++ more) r.parts ∙ append_assoc r.prefix rest more;
   reached = r.reached;
 }
 
@@ -75,11 +75,11 @@ said : (stream text content bytes more : List ℕ) (old new : Chunks) (step : Ch
 said stream text content bytes more old new (Framing n) e took says last = absurd last
 said stream text content bytes more old new (Content n) e took says last = absurd last
 said stream text content bytes more old new Need e took says last =
-    let reached : Reaches (text ++ bytes) old.place content bytes = record { front = text; parts = refl; reached = took.place } in
+    let reached : Reaches (text ++ bytes) old.place content bytes = record { prefix = text; parts = refl; reached = took.place } in
     let here : stream ≡ text ++ bytes = e ∙ ap (λ (m : List ℕ). (text ++ bytes) ++ m) last ∙ append-nil (text ++ bytes) in
     (cut content, subst (λ (s : List ℕ). Holds s (cut content)) (sym here) (old.place, bytes, reached, says), (refl, refl))
 said stream text content bytes more old new End e took says last =
-    (whole content (bytes ++ more), record { front = text; parts = e ∙ append_assoc text bytes more; reached = says }, (refl, refl))
+    (whole content (bytes ++ more), record { prefix = text; parts = e ∙ append_assoc text bytes more; reached = says }, (refl, refl))
 said stream text content bytes more old new (BadChunk at) e took says last =
     (bad content at, subst (λ (s : List ℕ). Holds s (bad content at)) (sym e) (settled_stays (text ++ bytes) more (bad content at) says tt), (refl, refl))
 said stream text content bytes more old new BodyTooLarge e took says last =

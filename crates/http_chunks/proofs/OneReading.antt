@@ -131,17 +131,17 @@ parted stream before content rest f chunks parts tail = (
 )
 
 -- behind a size line
-after_line : (before line part rest : List ℕ) (stream front : List ℕ) → stream ≡ front ++ rest → front ≡ before ++ (line ++ part) → stream ≡ before ++ (line ++ (part ++ rest))
-after_line before line part rest stream front e f =
+after_line : (before line part rest : List ℕ) (stream prefix : List ℕ) → stream ≡ prefix ++ rest → prefix ≡ before ++ (line ++ part) → stream ≡ before ++ (line ++ (part ++ rest))
+after_line before line part rest stream prefix e f =
     e ∙ ap (λ (t : List ℕ). t ++ rest) f ∙ append_assoc before (line ++ part) rest ∙ ap (λ (t : List ℕ). before ++ t) (append_assoc line part rest)
 
-last_parted : (stream rest content : List ℕ) (taken : ℕ) (front : List ℕ) (last : IsLast taken front content) (f : Reading) → stream ≡ front ++ rest
+last_parted : (stream rest content : List ℕ) (taken : ℕ) (prefix : List ℕ) (last : IsLast taken prefix content) (f : Reading) → stream ≡ prefix ++ rest
     → Ends taken content (length last.before + length (print_chunk_line last.last)) rest f → Parted stream f
 unfolding Tail Behind
-last_parted stream rest content taken front last f parts ends =
+last_parted stream rest content taken prefix last f parts ends =
     let at = length last.before + length (print_chunk_line last.last) in
     parted stream last.before content (print_chunk_line last.last ++ (lines_of last.lines ++ rest)) f last.chunks
-    (after_line last.before (print_chunk_line last.last) (lines_of last.lines) rest stream front parts last.text_is)
+    (after_line last.before (print_chunk_line last.last) (lines_of last.lines) rest stream prefix parts last.text_is)
     (inr (
       last.last,
       lines_of last.lines ++ rest,
@@ -155,25 +155,25 @@ last_parted stream rest content taken front last f parts ends =
       )),
     ))
 
-part_parted : (stream rest content : List ℕ) (left : ℕ) (front : List ℕ) (p : IsPart left front content) (f : Reading) → stream ≡ front ++ rest
+part_parted : (stream rest content : List ℕ) (left : ℕ) (prefix : List ℕ) (p : IsPart left prefix content) (f : Reading) → stream ≡ prefix ++ rest
     → InContent p.had (length p.before + length (print_chunk_line p.line)) (chunk_size p.line) (p.part ++ rest) f → Parted stream f
 unfolding Tail Behind
-part_parted stream rest content left front p f parts follows =
+part_parted stream rest content left prefix p f parts follows =
     parted stream p.before p.had (print_chunk_line p.line ++ (p.part ++ rest)) f p.chunks
-    (after_line p.before (print_chunk_line p.line) p.part rest stream front parts p.text_is)
+    (after_line p.before (print_chunk_line p.line) p.part rest stream prefix parts p.text_is)
     (inr (p.line, p.part ++ rest, record { short = p.valid; parts = refl }, inr (inr (p.some, p.room, follows))))
 
 bad_parted : (stream content : List ℕ) (at : ℕ) (place : Place) (rest : List ℕ) (back : ℕ) → Reaches stream place content rest → IsBad place rest back
     → at + back + length rest ≡ length stream → Parted stream (bad content at)
 unfolding Tail Lineless Ends InContent
 bad_parted stream content at Line rest back r b e =
-    parted stream r.front content rest (bad content at) r.reached r.parts
-    (inl (refl, omega (arith, e, b.1, ap length r.parts, length-append r.front rest), b.0))
+    parted stream r.prefix content rest (bad content at) r.reached r.parts
+    (inl (refl, omega (arith, e, b.1, ap length r.parts, length-append r.prefix rest), b.0))
 bad_parted stream content at (Inside left) rest back r b e = absurd b
 bad_parted stream content at After rest back r b e =
     let p = r.reached in
     let len : length p.part ≡ chunk_size p.line = omega (arith, p.sized) in
-    part_parted stream rest content 0 r.front p (bad content at) r.parts (
+    part_parted stream rest content 0 r.prefix p (bad content at) r.parts (
       p.part,
       rest,
       len,
@@ -186,7 +186,7 @@ bad_parted stream content at After rest back r b e =
         b.1,
         len,
         ap length r.parts,
-        length-append r.front rest,
+        length-append r.prefix rest,
         ap length p.text_is,
         length-append p.before (print_chunk_line p.line ++ p.part),
         length-append (print_chunk_line p.line) p.part,
@@ -194,7 +194,7 @@ bad_parted stream content at After rest back r b e =
     )
 bad_parted stream content at (Trailer taken) rest back r b e =
     let last = r.reached in
-    last_parted stream rest content taken r.front last (bad content at) r.parts (
+    last_parted stream rest content taken r.prefix last (bad content at) r.parts (
       refl,
       omega (
         arith,
@@ -202,7 +202,7 @@ bad_parted stream content at (Trailer taken) rest back r b e =
         b.1,
         last.taken_is,
         ap length r.parts,
-        length-append r.front rest,
+        length-append r.prefix rest,
         ap length last.text_is,
         length-append last.before (print_chunk_line last.last ++ lines_of last.lines),
         length-append (print_chunk_line last.last) (lines_of last.lines),
@@ -213,7 +213,7 @@ bad_parted stream content at Done rest back r b e = absurd b
 
 large_parted : (stream content : List ℕ) (place : Place) (rest : List ℕ) → Reaches stream place content rest → IsTooLarge place rest (length content) → Parted stream (large content)
 unfolding Tail Behind
-large_parted stream content Line rest r over = parted stream r.front content rest (large content) r.reached r.parts (inr (over.0, over.1, over.2, inl (over.3, refl)))
+large_parted stream content Line rest r over = parted stream r.prefix content rest (large content) r.reached r.parts (inr (over.0, over.1, over.2, inl (over.3, refl)))
 large_parted stream content (Inside left) rest r over = absurd over
 large_parted stream content After rest r over = absurd over
 large_parted stream content (Trailer taken) rest r over = absurd over
@@ -221,23 +221,23 @@ large_parted stream content Done rest r over = absurd over
 
 cut_parted : (stream content : List ℕ) (place : Place) (rest : List ℕ) → Reaches stream place content rest → IsOpen place rest → Parted stream (cut content)
 unfolding Tail Lineless Ends InContent
-cut_parted stream content Line rest r o = parted stream r.front content rest (cut content) r.reached r.parts (inl (refl, o))
+cut_parted stream content Line rest r o = parted stream r.prefix content rest (cut content) r.reached r.parts (inl (refl, o))
 cut_parted stream content (Inside left) rest r o =
     let p = r.reached.0 in
     let none : p.part ++ rest ≡ p.part = ap (λ (t : List ℕ). p.part ++ t) o ∙ append-nil p.part in
-    part_parted stream rest content left r.front p (cut content) r.parts (inl (omega (arith, ap length none, p.sized, r.reached.1), p.content_is ∙ ap (λ (t : List ℕ). p.had ++ t) (sym none)))
+    part_parted stream rest content left r.prefix p (cut content) r.parts (inl (omega (arith, ap length none, p.sized, r.reached.1), p.content_is ∙ ap (λ (t : List ℕ). p.had ++ t) (sym none)))
 cut_parted stream content After rest r o =
     let p = r.reached in
-    part_parted stream rest content 0 r.front p (cut content) r.parts (inr (p.part, rest, omega (arith, p.sized), refl, o, p.content_is))
-cut_parted stream content (Trailer taken) rest r o = last_parted stream rest content taken r.front r.reached (cut content) r.parts (refl, o)
+    part_parted stream rest content 0 r.prefix p (cut content) r.parts (inr (p.part, rest, omega (arith, p.sized), refl, o, p.content_is))
+cut_parted stream content (Trailer taken) rest r o = last_parted stream rest content taken r.prefix r.reached (cut content) r.parts (refl, o)
 cut_parted stream content Done rest r o = absurd o
 
 to_parts : (stream : List ℕ) (f : Reading) → Holds stream f → Parted stream f
 unfolding Ends
 to_parts stream (whole content rest) h =
     let body = h.reached in
-    last_parted stream (crlf_bytes ++ rest) content body.taken body.front body.last (whole content rest)
-    (h.parts ∙ ap (λ (t : List ℕ). t ++ rest) body.text_is ∙ append_assoc body.front crlf_bytes rest) (refl, refl, body.room)
+    last_parted stream (crlf_bytes ++ rest) content body.taken body.prefix body.last (whole content rest)
+    (h.parts ∙ ap (λ (t : List ℕ). t ++ rest) body.text_is ∙ append_assoc body.prefix crlf_bytes rest) (refl, refl, body.room)
 to_parts stream (bad content at) h = bad_parted stream content at h.0 h.1 h.2 h.3 h.4 h.5
 to_parts stream (large content) h = large_parted stream content h.0 h.1 h.2 h.3
 to_parts stream (cut content) h = cut_parted stream content h.0 h.1 h.2 h.3
@@ -252,7 +252,7 @@ one_reading stream f g a b =
 pub one_body : (text other content wanted rest more : List ℕ) → IsBody text content → IsBody other wanted → text ++ rest ≡ other ++ more
     → (text ≡ other) × (content ≡ wanted) × (rest ≡ more)
 one_body text other content wanted rest more a b e =
-    let same = one_reading (text ++ rest) (whole content rest) (whole wanted more) (record { front = text; parts = refl; reached = a }) (record { front = other; parts = e; reached = b }) in
+    let same = one_reading (text ++ rest) (whole content rest) (whole wanted more) (record { prefix = text; parts = refl; reached = a }) (record { prefix = other; parts = e; reached = b }) in
     let rests = rest_same content wanted rest more same in
     (append_cancel_right text other rest (e ∙ ap (λ (t : List ℕ). other ++ t) (sym rests)), content_same content wanted rest more same, rests)
   where

@@ -21,7 +21,7 @@ total_of chunks place text content is took = took.total ∙ ap (λ (p : Place). 
 
 pub large_at : (text content bytes rest : List ℕ) (line : ChunkLine) → AreChunks text content → HasLine bytes line rest → content_limit < length content + chunk_size line
     → Holds (text ++ bytes) (large content)
-large_at text content bytes rest line chunks has over = (Line, bytes, record { front = text; parts = refl; reached = chunks }, (line, rest, has, over))
+large_at text content bytes rest line chunks has over = (Line, bytes, record { prefix = text; parts = refl; reached = chunks }, (line, rest, has, over))
 
 -- so many bytes more were taken
 pub taken_more : (text bytes : List ℕ) (at n : ℕ) → at ≡ length text → n ≤ length bytes → at + n ≡ length (text ++ take n bytes)

@@ -10,7 +10,7 @@ use Rattle.http_chunks.specs.Places.{IsOpenEnd, IsNoEnd}
 use Rattle.http_chunks.specs.Reading.{Reading, whole, bad, large, cut}
 use Rattle.http_chunks.proofs.LineLemmas.{line_not_bad, line_not_open, bad_not_open, line_unique}
 
--- two fronts of one length
+-- two prefixes of one length
 pub split : (t r u s : List ℕ) → length t ≡ length u → t ++ r ≡ u ++ s → (t ≡ u) × (r ≡ s)
 split t r u s len e = (
   sym (take_at t r (length t) refl) ∙ ap (take (length t)) e ∙ take_at u s (length t) (sym len),

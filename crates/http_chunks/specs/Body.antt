@@ -1,4 +1,4 @@
--- A chunked body (RFC 9112, section 7.1), and the fronts of one.
+-- A chunked body (RFC 9112, section 7.1), and the prefixes of one.
 use Rattle.std.specs.Prelude.{◌≡◌, ℕ, ◌+◌, ◌<◌, ◌≤◌, List, ◌++◌, length}
 use Rattle.std.specs.List.{flat_map, AllByRecursion}
 use Rattle.httparse.specs.Ascii.{crlf_bytes}
@@ -68,8 +68,8 @@ pub record IsLast (taken : ℕ) (text content : List ℕ) : Type 0 where
 
 -- a whole body: all of that, and an empty line
 pub record IsBody (text content : List ℕ) : Type 0 where
-  pub front : List ℕ
+  pub prefix : List ℕ
   pub taken : ℕ
-  pub last : IsLast taken front content
-  pub text_is : text ≡ front ++ crlf_bytes
+  pub last : IsLast taken prefix content
+  pub text_is : text ≡ prefix ++ crlf_bytes
   pub room : taken + 2 ≤ trailer_limit

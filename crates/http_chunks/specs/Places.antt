@@ -1,4 +1,4 @@
--- Where a body stands behind a front of it, and what can stand there.
+-- Where a body stands behind a prefix of it, and what can stand there.
 use Rattle.std.specs.Prelude.{◌≡◌, ◌≢◌, ℕ, ◌+◌, ◌<◌, ◌⊎◌, List, [], ◌∷◌, length, slice_index}
 use Rattle.httparse.specs.Ascii.{carriage_return, line_feed}
 use Rattle.httparse.specs.Grammar.{ChunkLine, chunk_size}
@@ -8,7 +8,7 @@ use Rattle.http_chunks.specs.Lines.{HasLine, IsBadLine, IsOpenLine}
 use Rattle.http_chunks.specs.Trailers.{IsBadTrailer, IsOpenTrailer}
 use Rattle.http_chunks.specs.Body.{content_limit, AreChunks, IsPart, IsLast, IsBody}
 
--- the text is a front of a body up to the place, and has this content
+-- the text is a prefix of a body up to the place, and has this content
 abbrev pub ReachesWith : Place → List ℕ → List ℕ → Type 0
 ReachesWith Line text content = AreChunks text content
 ReachesWith (Inside left) text content = IsPart left text content × (0 < left)

@@ -12,11 +12,11 @@ pub data Reading : Type 0 where
   large : List ℕ → Reading
   cut : List ℕ → Reading
 
--- the stream is a front of a body up to the place, with this content, and the rest
+-- the stream is a prefix of a body up to the place, with this content, and the rest
 pub record Reaches (stream : List ℕ) (place : Place) (content rest : List ℕ) : Type 0 where
-  pub front : List ℕ
-  pub parts : stream ≡ front ++ rest
-  pub reached : ReachesWith place front content
+  pub prefix : List ℕ
+  pub parts : stream ≡ prefix ++ rest
+  pub reached : ReachesWith place prefix content
 
 abbrev pub Holds : List ℕ → Reading → Type 0
 Holds stream (whole content rest) = Reaches stream Done content rest

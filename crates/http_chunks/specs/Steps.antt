@@ -9,7 +9,7 @@ use Rattle.http_chunks.specs.Places.{ReachesWith, IsOpen}
 use Rattle.http_chunks.specs.Room.{left_at}
 use Rattle.http_chunks.specs.Reading.{Holds, bad, large}
 
--- the reader has taken this text, a front of a body, which has this content
+-- the reader has taken this text, a prefix of a body, which has this content
 pub record Took (chunks : Chunks) (text content : List ℕ) : Type 0 where
   pub place : ReachesWith chunks.place text content
   pub at : chunks.at ≡ length text

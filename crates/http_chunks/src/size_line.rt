@@ -16,7 +16,7 @@ pub(crate) enum LineStep {
 
 // The first bytes, as many as a size line may have.
 #[tactic(auto, unfolding(crate::specs::Lines::line_limit))]
-fn front(bytes: &[u8]) -> &[u8]
+fn prefix(bytes: &[u8]) -> &[u8]
     ensures { result.now ≡ take line_limit bytes.now }
 {
     if bytes.len() > LINE_LIMIT {
@@ -32,7 +32,7 @@ pub(crate) fn size_line(bytes: &[u8]) -> LineStep
     ensures line { GivesLine bytes.now result }
     ensures within { IsLineWithin (length bytes.now) result }
 {
-    match parse_chunk_size(front(bytes)) {
+    match parse_chunk_size(prefix(bytes)) {
         Ok(Status::Complete((length, size))) => LineStep::Line { length, size },
         Ok(Status::Partial) => {
             if bytes.len() < LINE_LIMIT {

@@ -53,11 +53,11 @@ or_some : {A : Type 0} (a b : Option A) → IsTrue (is_some a) → option_or a b
 or_some None b h = cc
 or_some (Some x) b h = refl
 
-find_front : {A : Type 0} (p : A → Bool) (xs ys : List A) → IsTrue (is_some (find p xs)) → find p (xs ++ ys) ≡ find p xs
-find_front p xs ys h = find-append p xs ys ∙ or_some (find p xs) (find p ys) h
+find_prefix : {A : Type 0} (p : A → Bool) (xs ys : List A) → IsTrue (is_some (find p xs)) → find p (xs ++ ys) ≡ find p xs
+find_prefix p xs ys h = find-append p xs ys ∙ or_some (find p xs) (find p ys) h
 
 kept : (r : Reply) (k more : Contents) → Serves k r → asset_content (k ++ more) r ≡ asset_content k r
-kept (reply.Found asset) k more h = rw (find_front (λ (c : BlobRef × List ℕ). same_blob c.0 asset.blob) k more h) refl
+kept (reply.Found asset) k more h = rw (find_prefix (λ (c : BlobRef × List ℕ). same_blob c.0 asset.blob) k more h) refl
 kept (reply.Begun store) k more h = refl
 kept (reply.Stored asset) k more h = refl
 kept reply.Gone k more h = refl

@@ -56,16 +56,16 @@ IsHeadLen-append d more n h = record {
 }
 
 ends_long : (text : List ℕ) → EndsHead text → 2 ≤ length text
-ends_long text (front, inl e) = omega (arith, ap length e, length-append front (10 ∷ 10 ∷ []))
-ends_long text (front, inr e) = omega (arith, ap length e, length-append front (10 ∷ 13 ∷ 10 ∷ []))
+ends_long text (prefix, inl e) = omega (arith, ap length e, length-append prefix (10 ∷ 10 ∷ []))
+ends_long text (prefix, inr e) = omega (arith, ap length e, length-append prefix (10 ∷ 13 ∷ 10 ∷ []))
 
 -- a head has at least two bytes
 pub two_bytes : (d : List ℕ) (n : ℕ) → IsHeadLen d n → 2 ≤ n
 two_bytes d n h = omega (arith, ends_long (take n d) h.ends, length-take-le n d h.within)
 
 no_end : ¬ (EndsHead [])
-no_end (front, inl e) = omega (arith, ap length e, length-append front (10 ∷ 10 ∷ []))
-no_end (front, inr e) = omega (arith, ap length e, length-append front (10 ∷ 13 ∷ 10 ∷ []))
+no_end (prefix, inl e) = omega (arith, ap length e, length-append prefix (10 ∷ 10 ∷ []))
+no_end (prefix, inr e) = omega (arith, ap length e, length-append prefix (10 ∷ 13 ∷ 10 ∷ []))
 
 -- nothing was scanned yet
 pub nothing_scanned : (bytes : List ℕ) → HasNoHead (take 0 bytes)

@@ -13,32 +13,32 @@ EndsByBytes bytes last =
     × (((1 ≤ last) × (get_or bytes (last - 1) 0 ≡ 10))
     ⊎ ((2 ≤ last) × (get_or bytes (last - 1) 0 ≡ 13) × (get_or bytes (last - 2) 0 ≡ 10)))
 
-read_at : (text bytes front tail : List ℕ) (n k : ℕ) → text ≡ take n bytes → n ≤ length bytes → text ≡ front ++ tail → k < length tail
-    → get_or bytes (length front + k) 0 ≡ get_or tail k 0
-read_at text bytes front tail n k is le e lt =
-    let len : length front + length tail ≡ n = sym (length-append front tail) ∙ ap length (sym e ∙ is) ∙ length-take-le n bytes le in
-    let inside : length front + k < n = omega arith in
-    sym (get_or-take n bytes (length front + k) 0 inside) ∙ ap (λ (t : List ℕ). get_or t (length front + k) 0) (sym is ∙ e) ∙ get_or-append-add front tail k 0
+read_at : (text bytes prefix tail : List ℕ) (n k : ℕ) → text ≡ take n bytes → n ≤ length bytes → text ≡ prefix ++ tail → k < length tail
+    → get_or bytes (length prefix + k) 0 ≡ get_or tail k 0
+read_at text bytes prefix tail n k is le e lt =
+    let len : length prefix + length tail ≡ n = sym (length-append prefix tail) ∙ ap length (sym e ∙ is) ∙ length-take-le n bytes le in
+    let inside : length prefix + k < n = omega arith in
+    sym (get_or-take n bytes (length prefix + k) 0 inside) ∙ ap (λ (t : List ℕ). get_or t (length prefix + k) 0) (sym is ∙ e) ∙ get_or-append-add prefix tail k 0
 
-len_of : (bytes front tail : List ℕ) (n : ℕ) → n ≤ length bytes → take n bytes ≡ front ++ tail → length front + length tail ≡ n
-len_of bytes front tail n le e = sym (length-append front tail) ∙ ap length (sym e) ∙ length-take-le n bytes le
+len_of : (bytes prefix tail : List ℕ) (n : ℕ) → n ≤ length bytes → take n bytes ≡ prefix ++ tail → length prefix + length tail ≡ n
+len_of bytes prefix tail n le e = sym (length-append prefix tail) ∙ ap length (sym e) ∙ length-take-le n bytes le
 
 pub EndsByBytes-from : (bytes : List ℕ) (last : ℕ) → last < length bytes → EndsHead (take (last + 1) bytes) → EndsByBytes bytes last
-EndsByBytes-from bytes last lt (front, inl e) =
-    let n = len_of bytes front (10 ∷ 10 ∷ []) (last + 1) (omega arith) e in
-    let a = read_at _ bytes front (10 ∷ 10 ∷ []) (last + 1) 0 refl (omega arith) e (omega arith) in
-    let b = read_at _ bytes front (10 ∷ 10 ∷ []) (last + 1) 1 refl (omega arith) e (omega arith) in
-    let la : length front + 0 ≡ last - 1 = omega arith in
-    let lb : length front + 1 ≡ last = omega arith in
+EndsByBytes-from bytes last lt (prefix, inl e) =
+    let n = len_of bytes prefix (10 ∷ 10 ∷ []) (last + 1) (omega arith) e in
+    let a = read_at _ bytes prefix (10 ∷ 10 ∷ []) (last + 1) 0 refl (omega arith) e (omega arith) in
+    let b = read_at _ bytes prefix (10 ∷ 10 ∷ []) (last + 1) 1 refl (omega arith) e (omega arith) in
+    let la : length prefix + 0 ≡ last - 1 = omega arith in
+    let lb : length prefix + 1 ≡ last = omega arith in
     (subst (λ (i : ℕ). get_or bytes i 0 ≡ 10) lb b, inl (omega arith, subst (λ (i : ℕ). get_or bytes i 0 ≡ 10) la a))
-EndsByBytes-from bytes last lt (front, inr e) =
-    let n = len_of bytes front (10 ∷ 13 ∷ 10 ∷ []) (last + 1) (omega arith) e in
-    let a = read_at _ bytes front (10 ∷ 13 ∷ 10 ∷ []) (last + 1) 0 refl (omega arith) e (omega arith) in
-    let b = read_at _ bytes front (10 ∷ 13 ∷ 10 ∷ []) (last + 1) 1 refl (omega arith) e (omega arith) in
-    let d = read_at _ bytes front (10 ∷ 13 ∷ 10 ∷ []) (last + 1) 2 refl (omega arith) e (omega arith) in
-    let la : length front + 0 ≡ last - 2 = omega arith in
-    let lb : length front + 1 ≡ last - 1 = omega arith in
-    let ld : length front + 2 ≡ last = omega arith in (
+EndsByBytes-from bytes last lt (prefix, inr e) =
+    let n = len_of bytes prefix (10 ∷ 13 ∷ 10 ∷ []) (last + 1) (omega arith) e in
+    let a = read_at _ bytes prefix (10 ∷ 13 ∷ 10 ∷ []) (last + 1) 0 refl (omega arith) e (omega arith) in
+    let b = read_at _ bytes prefix (10 ∷ 13 ∷ 10 ∷ []) (last + 1) 1 refl (omega arith) e (omega arith) in
+    let d = read_at _ bytes prefix (10 ∷ 13 ∷ 10 ∷ []) (last + 1) 2 refl (omega arith) e (omega arith) in
+    let la : length prefix + 0 ≡ last - 2 = omega arith in
+    let lb : length prefix + 1 ≡ last - 1 = omega arith in
+    let ld : length prefix + 2 ≡ last = omega arith in (
       subst (λ (i : ℕ). get_or bytes i 0 ≡ 10) ld d,
       inr (omega arith, subst (λ (i : ℕ). get_or bytes i 0 ≡ 13) lb b, subst (λ (i : ℕ). get_or bytes i 0 ≡ 10) la a),
     )

@@ -21,13 +21,13 @@ pub trim_step : (text : List ℕ) (end : ℕ) → 0 < end → end ≤ length tex
     → skip_ows (reverse (take (end - 1) text)) ≡ skip_ows (reverse (take end text))
 trim_step text end some le blank = sym (skip_ows_yes (last_of text end some le) blank)
 
-pub trim_stop : (text front : List ℕ) (end : ℕ) → front ≡ skip_ows text → 0 < end → end ≤ length front → false ≡ is_ows (get_or front (end - 1) 0)
-    → skip_ows (reverse (take end front)) ≡ skip_ows (reverse front) → take end front ≡ trim_ows text
+pub trim_stop : (text prefix : List ℕ) (end : ℕ) → prefix ≡ skip_ows text → 0 < end → end ≤ length prefix → false ≡ is_ows (get_or prefix (end - 1) 0)
+    → skip_ows (reverse (take end prefix)) ≡ skip_ows (reverse prefix) → take end prefix ≡ trim_ows text
 unfolding trim_ows
-trim_stop text front end is some le other same =
-    sym (reverse-reverse (take end front)) ∙ ap reverse (sym (skip_ows_no (last_of front end some le) other) ∙ same)
+trim_stop text prefix end is some le other same =
+    sym (reverse-reverse (take end prefix)) ∙ ap reverse (sym (skip_ows_no (last_of prefix end some le) other) ∙ same)
     ∙ ap (λ (t : List ℕ). reverse (skip_ows (reverse t))) is
 
-pub trim_none : (text front : List ℕ) → front ≡ skip_ows text → skip_ows (reverse (take 0 front)) ≡ skip_ows (reverse front) → [] ≡ trim_ows text
+pub trim_none : (text prefix : List ℕ) → prefix ≡ skip_ows text → skip_ows (reverse (take 0 prefix)) ≡ skip_ows (reverse prefix) → [] ≡ trim_ows text
 unfolding trim_ows
-trim_none text front is same = ap reverse same ∙ ap (λ (t : List ℕ). reverse (skip_ows (reverse t))) is
+trim_none text prefix is same = ap reverse same ∙ ap (λ (t : List ℕ). reverse (skip_ows (reverse t))) is

@@ -13,15 +13,15 @@ drop_blank (b ∷ c ∷ bytes) =
 
 -- the text ends with an empty line
 abbrev pub EndsHead : List ℕ → Type 0
-EndsHead text = (front : List ℕ) × ((text ≡ front ++ codes "\n\n") ⊎ (text ≡ front ++ codes "\n\r\n"))
+EndsHead text = (prefix : List ℕ) × ((text ≡ prefix ++ codes "\n\n") ⊎ (text ≡ prefix ++ codes "\n\r\n"))
 
--- the shortest front that ends with an empty line has n bytes
+-- the shortest prefix that ends with an empty line has n bytes
 pub record IsHeadLen (bytes : List ℕ) (n : ℕ) : Type 0 where
   pub within : n ≤ length bytes
   pub ends : EndsHead (take n bytes)
   pub shortest : (m : ℕ) → m < n → ¬ (EndsHead (take m bytes))
 
--- no front ends with an empty line
+-- no prefix ends with an empty line
 abbrev pub HasNoHead : List ℕ → Type 0
 HasNoHead bytes = (m : ℕ) → ¬ (EndsHead (take m bytes))
 

@@ -36,7 +36,7 @@ fn ends_at(bytes: &[u8], last: usize) -> bool
     bytes[last - 2] == b'\n'
 }
 
-/// The length of the head in front: of the shortest front that ends with an empty line. The caller may say how many bytes
+/// The length of the head in front: of the shortest prefix that ends with an empty line. The caller may say how many bytes
 /// it has scanned before without finding one, so that bytes that come piece by piece are scanned once.
 pub fn head_len(bytes: &[u8], scanned: usize) -> Option<usize>
     requires within { scanned ≤ length bytes.now }

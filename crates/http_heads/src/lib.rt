@@ -1,6 +1,6 @@
 //! The heads of HTTP/1.1 requests in the whole of this project's profile, and the heads of responses.
 //!
-//! - A *head* is the shortest front of the bytes, behind line ends that are dropped, that ends with an empty line
+//! - A *head* is the shortest prefix of the bytes, behind line ends that are dropped, that ends with an empty line
 //!   (specs/Cut.antt). It has at most 16,384 bytes (this project's own limit).
 //! - [`read_head`] reads a text as one head: as `httparse` reads it with room for 64 fields (RFC 9112, sections 2 to 5), and
 //!   then by its method, its target and its fields (`judge`, specs/Head.antt). Its contract is one relation, `GivesHead`, with

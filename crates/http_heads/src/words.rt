@@ -50,15 +50,15 @@ fn skip_blank(text: &[u8]) -> &[u8]
 pub(crate) fn trimmed(text: &[u8]) -> &[u8]
     ensures { result.now ≡ trim_ows text.now }
 {
-    let front = skip_blank(text);
-    let mut end = front.len();
+    let prefix = skip_blank(text);
+    let mut end = prefix.len();
     while end > 0 {
-        if !is_blank(front[end - 1]) {
-            return &front[..end];
+        if !is_blank(prefix[end - 1]) {
+            return &prefix[..end];
         }
         end -= 1;
     }
-    &front[..0]
+    &prefix[..0]
 }
 
 /// Where the first byte of that value stands, or the text's length.

@@ -13,8 +13,8 @@ use Rattle.http_heads.proofs.Limits.{head_limit_is}
 use Rattle.http_requests.specs.Heads.{asks_for_head, FirstHead, Accepts, HasTooLong, HasRefused, IsRefused, EndsInHead, merged_cause}
 
 no_end : ¬ (EndsHead [])
-no_end (front, inl e) = absurd (omega (arith, ap length e, length-append front (10 ∷ 10 ∷ [])))
-no_end (front, inr e) = absurd (omega (arith, ap length e, length-append front (10 ∷ 13 ∷ 10 ∷ [])))
+no_end (prefix, inl e) = absurd (omega (arith, ap length e, length-append prefix (10 ∷ 10 ∷ [])))
+no_end (prefix, inr e) = absurd (omega (arith, ap length e, length-append prefix (10 ∷ 13 ∷ 10 ∷ [])))
 
 one_len : (d : List ℕ) (n m : ℕ) → IsHeadLen d n → IsHeadLen d m → n ≡ m
 one_len d n m x y = elim (cases_lt n m) [

@@ -32,8 +32,8 @@ same xs part k n le len =
     same_len_mid k (k + n - k) xs part (len ∙ sym z ∙ sym (length-take-le (k + n - k) (drop k xs) (omega (arith, z, length-drop k xs))))
 
 -- the same, where only the first of them count
-pub fed_front : (xs part : List ℕ) (s e n m j : ℕ) → s ≤ e → e + n ≤ length xs → length part ≡ n → m ≤ n → j ≡ e + m - s → take j (drop s (put_mid e (e + n - e) xs part)) ≡ take (e - s) (drop s xs) ++ take m part
-fed_front xs part s e n m j order le len few is =
+pub fed_prefix : (xs part : List ℕ) (s e n m j : ℕ) → s ≤ e → e + n ≤ length xs → length part ≡ n → m ≤ n → j ≡ e + m - s → take j (drop s (put_mid e (e + n - e) xs part)) ≡ take (e - s) (drop s xs) ++ take m part
+fed_prefix xs part s e n m j order le len few is =
     let all : List ℕ = drop s (put_mid e (e + n - e) xs part) in
     let kept : List ℕ = take (e - s) (drop s xs) in
     let long : length kept ≡ e - s = held_len xs s e order (omega arith) in

@@ -61,7 +61,7 @@ need_in (framings.Length n) chunks new part came bytes x e says = absurd x
 need_in framings.Chunked chunks new part came bytes x e says =
     let open_there = says part came x in (
       subst (λ (c : Chunks). Took c part came) (sym e) x,
-      (chunks.place, bytes, record { front = part; parts = refl; reached = x.place }, open_there),
+      (chunks.place, bytes, record { prefix = part; parts = refl; reached = x.place }, open_there),
       few_open chunks.place bytes open_there,
     )
 

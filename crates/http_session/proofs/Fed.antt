@@ -10,8 +10,8 @@ fed_more s new bytes fed past e within t = subst (λ (v : SessionView). Took v (
   text = t.text;
   part = t.part;
   parts = ap (λ (l : List ℕ). l ++ bytes) t.parts
-      ∙ append_assoc t.text (t.part ++ (s.lent ++ s.held)) bytes
-      ∙ ap (λ (l : List ℕ). t.text ++ l) (append_assoc t.part (s.lent ++ s.held) bytes ∙ ap (λ (l : List ℕ). t.part ++ l) (append_assoc s.lent s.held bytes));
+      ∙ append_assoc t.text (t.part ++ (s.borrowed ++ s.held)) bytes
+      ∙ ap (λ (l : List ℕ). t.text ++ l) (append_assoc t.part (s.borrowed ++ s.held) bytes ∙ ap (λ (l : List ℕ). t.part ++ l) (append_assoc s.borrowed s.held bytes));
   spans = t.spans;
   stands = t.stands;
   said = t.said;
@@ -43,11 +43,11 @@ told_longer s new fed past e full t = subst (λ (v : SessionView). Took v fed pa
   longer = λ l. sym t.count ∙ full;
 })
 
--- bytes were put behind those of a buffer, of which the first are lent
-pub grown : (s : SessionView) (n l : ℕ) (old new bytes : List ℕ) → l ≤ length old → s.lent ≡ take l old → s.held ≡ drop l old → new ≡ old ++ bytes → n ≡ length bytes
-    → record s { lent = take l new; held = drop l new; total = s.total + n } ≡ record s { held = s.held ++ bytes; total = s.total + length bytes }
-grown s n l old new bytes le lent held e count =
-    ap (λ (t : List ℕ). record s { lent = take l t; held = drop l t; total = s.total + n }) e
-    ∙ ap (λ (t : List ℕ). record s { lent = t; held = drop l (old ++ bytes); total = s.total + n }) (take-append-le l old bytes le ∙ sym lent)
+-- bytes were put behind those of a buffer, of which the first are borrowed
+pub grown : (s : SessionView) (n l : ℕ) (old new bytes : List ℕ) → l ≤ length old → s.borrowed ≡ take l old → s.held ≡ drop l old → new ≡ old ++ bytes → n ≡ length bytes
+    → record s { borrowed = take l new; held = drop l new; total = s.total + n } ≡ record s { held = s.held ++ bytes; total = s.total + length bytes }
+grown s n l old new bytes le borrowed held e count =
+    ap (λ (t : List ℕ). record s { borrowed = take l t; held = drop l t; total = s.total + n }) e
+    ∙ ap (λ (t : List ℕ). record s { borrowed = t; held = drop l (old ++ bytes); total = s.total + n }) (take-append-le l old bytes le ∙ sym borrowed)
     ∙ ap (λ (t : List ℕ). record s { held = t; total = s.total + n }) (drop-append-le l old bytes le ∙ ap (λ (t : List ℕ). t ++ bytes) (sym held))
     ∙ ap (λ (m : ℕ). record s { held = s.held ++ bytes; total = s.total + m }) count

@@ -3,7 +3,7 @@ pub mod Places
 pub mod Replied
 pub mod Buffers
 pub mod Contents
-pub mod Fronts
+pub mod Prefixes
 pub mod Heads
 pub mod Parts
 pub mod Waits

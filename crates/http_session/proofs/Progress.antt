@@ -2,7 +2,7 @@
 use Rattle.std.proofs.Common.{◌≡◌, ℕ, ◌+◌, ◌<◌, ◌≤◌, Bool, true, false, List, [], length, take, drop, refl, sym, ap, subst, ◌∙◌, arith, length-append}
 use Rattle.std.proofs.lemmas.List.{length-drop, length-take-le}
 use Rattle.http_heads.specs.Cut.{drop_blank}
-use Rattle.http_front.proofs.Blanks.{blank_front, splits}
+use Rattle.http_front.proofs.Blanks.{blank_prefix, splits}
 use Rattle.http_session.specs.declared.place.Place.{Place}
 use Rattle.http_session.specs.declared.step.Step.{Step}
 use Rattle.http_session.specs.Views.{SessionView, waiting}
@@ -21,10 +21,10 @@ same s = record { total = refl; ended = refl; longer = refl; fewer = omega arith
 pub along : (a b c : SessionView) → Shrinks a b → Shrinks b c → Shrinks a c
 along a b c x y = record { total = y.total ∙ x.total; ended = y.ended ∙ x.ended; longer = y.longer ∙ x.longer; fewer = omega (arith, x.fewer, y.fewer) }
 
--- what is lent and held, where it stands and what there is to say were changed
-pub changed : (s new : SessionView) (lent held out : List ℕ) (place : Place) → new ≡ record s { lent = lent; held = held; place = place; out = out }
-    → length lent + length held ≤ waiting s → Shrinks s new
-changed s new lent held out place e le = record {
+-- what is borrowed and held, where it stands and what there is to say were changed
+pub changed : (s new : SessionView) (borrowed held out : List ℕ) (place : Place) → new ≡ record s { borrowed = borrowed; held = held; place = place; out = out }
+    → length borrowed + length held ≤ waiting s → Shrinks s new
+changed s new borrowed held out place e le = record {
   total = ap (λ (v : SessionView). v.total) e;
   ended = ap (λ (v : SessionView). v.ended) e;
   longer = ap (λ (v : SessionView). v.longer) e;
@@ -60,24 +60,24 @@ waits_without_head false false i = refl
 
 -- line ends were taken
 pub blank_shrinks : (s new : SessionView) → new ≡ record s { held = drop_blank s.held } → Shrinks s new
-blank_shrinks s new e = changed s new s.lent (drop_blank s.held) s.out s.place e (omega (arith, ap length (splits s.held), length-append (blank_front s.held) (drop_blank s.held)))
+blank_shrinks s new e = changed s new s.borrowed (drop_blank s.held) s.out s.place e (omega (arith, ap length (splits s.held), length-append (blank_prefix s.held) (drop_blank s.held)))
 
 -- bytes in front were taken
-pub front_shrinks : (s new : SessionView) (n : ℕ) (place : Place) → new ≡ record s { held = drop n s.held; place = place } → Shrinks s new
-front_shrinks s new n place e = changed s new s.lent (drop n s.held) s.out place e (omega (arith, length-drop n s.held))
+pub prefix_shrinks : (s new : SessionView) (n : ℕ) (place : Place) → new ≡ record s { held = drop n s.held; place = place } → Shrinks s new
+prefix_shrinks s new n place e = changed s new s.borrowed (drop n s.held) s.out place e (omega (arith, length-drop n s.held))
 
--- bytes in front were lent
-pub lent_shrinks : (s new : SessionView) (n : ℕ) (place : Place) → n ≤ length s.held → new ≡ record s { lent = take n s.held; held = drop n s.held; place = place } → Shrinks s new
-lent_shrinks s new n place le e = changed s new (take n s.held) (drop n s.held) s.out place e (omega (arith, length-drop n s.held, length-take-le n s.held le))
+-- bytes in front were borrowed
+pub borrowed_shrinks : (s new : SessionView) (n : ℕ) (place : Place) → n ≤ length s.held → new ≡ record s { borrowed = take n s.held; held = drop n s.held; place = place } → Shrinks s new
+borrowed_shrinks s new n place le e = changed s new (take n s.held) (drop n s.held) s.out place e (omega (arith, length-drop n s.held, length-take-le n s.held le))
 
 -- all bytes that are held were taken
 pub all_shrinks : (s new : SessionView) (out : List ℕ) (place : Place) → new ≡ record s { held = []; place = place; out = out } → Shrinks s new
-all_shrinks s new out place e = changed s new s.lent [] out place e (omega arith)
+all_shrinks s new out place e = changed s new s.borrowed [] out place e (omega arith)
 
 -- a head was taken
 pub head_progresses : (s new : SessionView) (step : Step) (n : ℕ) (place : Place) → 1 < n → n ≤ length s.held → new ≡ record s { held = drop n s.held; place = place } → Progresses s new step
 head_progresses s new step n place some le e =
-    let x = front_shrinks s new n place e in
+    let x = prefix_shrinks s new n place e in
     record {
       total = x.total;
       ended = x.ended;

@@ -24,10 +24,10 @@ use Rattle.http_session.specs.Taken.{Past, phase_of, with_mark, StandsAt, Took, 
 use Rattle.http_session.proofs.Marked.{no_parts, answer_took, advance}
 use Rattle.http_session.proofs.Places.{at_asked, at_beginning, at_inside, at_putting, nothing_taken}
 
--- where a session stands behind an answer, nothing being lent
-behind_stands : (ends : Bool) (bytes lent : List ℕ) → lent ≡ [] → StandsAt (behind (record { bytes = bytes; ends = ends })) (place_behind ends) lent lent
-behind_stands true bytes lent e = (refl, e, e)
-behind_stands false bytes lent e = (refl, subst (λ (l : List ℕ). (rest : List ℕ) → drop_blank (l ++ rest) ≡ drop_blank rest) (sym e) (λ rest. refl), e)
+-- where a session stands behind an answer, nothing being borrowed
+behind_stands : (ends : Bool) (bytes borrowed : List ℕ) → borrowed ≡ [] → StandsAt (behind (record { bytes = bytes; ends = ends })) (place_behind ends) borrowed borrowed
+behind_stands true bytes borrowed e = (refl, e, e)
+behind_stands false bytes borrowed e = (refl, subst (λ (l : List ℕ). (rest : List ℕ) → drop_blank (l ++ rest) ≡ drop_blank rest) (sym e) (λ rest. refl), e)
 
 no_content : (r : Reply) → asset_content [] r ≡ []
 no_content (reply.Found asset) = refl
@@ -42,28 +42,28 @@ no_content (reply.Refused r) = refl
 pub replied_asked : (s : SessionView) (fed : List ℕ) (past : Past) (bare closes : Bool) (r : Reply) → s.place ≡ places.Asked bare closes → s.out ≡ [] → Took s fed past
     → Took (record s { place = place_behind closes; out = replied_with bare closes [] r }) fed (with_mark (replied r) past)
 replied_asked s fed past bare closes r is quiet t =
-    let x = at_asked (phase_of past) bare closes (t.part ++ s.lent) (past.came ++ s.lent) (subst (λ (p : Place). StandsAt (phase_of past) p (t.part ++ s.lent) (past.came ++ s.lent)) is t.stands) in
-    let none = no_parts t.part s.lent x.4 in
+    let x = at_asked (phase_of past) bare closes (t.part ++ s.borrowed) (past.came ++ s.borrowed) (subst (λ (p : Place). StandsAt (phase_of past) p (t.part ++ s.borrowed) (past.came ++ s.borrowed)) is t.stands) in
+    let none = no_parts t.part s.borrowed x.4 in
     let new : SessionView = record s { place = place_behind closes; out = replied_with bare closes [] r } in
     answer_took s new fed past (replied r) t (subst (λ (p : Phase). IsTextOf p (replied r) []) (sym x.1) refl) none.0 quiet
     (subst (λ (p : Phase). replied_with bare closes [] r ≡ (answer_at p (replied r)).bytes) (sym x.1)
     (ap (λ (b : Bool). replied_with b closes [] r) x.2 ∙ ap (λ (b : Bool). replied_with (is_head x.0.method) b [] r) x.3 ∙ ap (λ (c : List ℕ). replied_with (is_head x.0.method) x.0.closes c r) (sym (no_content r))))
     refl refl refl
-    (subst (λ (p : Phase). StandsAt (after p (replied r)) (place_behind closes) s.lent s.lent) (sym x.1)
-    (subst (λ (b : Bool). StandsAt (after (asked x.0) (replied r)) (place_behind b) s.lent s.lent) (sym x.3) (behind_stands x.0.closes (replied_with (is_head x.0.method) x.0.closes (asset_content [] r) r) s.lent none.1)))
+    (subst (λ (p : Phase). StandsAt (after p (replied r)) (place_behind closes) s.borrowed s.borrowed) (sym x.1)
+    (subst (λ (b : Bool). StandsAt (after (asked x.0) (replied r)) (place_behind b) s.borrowed s.borrowed) (sym x.3) (behind_stands x.0.closes (replied_with (is_head x.0.method) x.0.closes (asset_content [] r) r) s.borrowed none.1)))
 
 -- the reply to a put
 pub replied_putting : (s : SessionView) (fed : List ℕ) (past : Past) (closes : Bool) (r : Reply) → s.place ≡ places.Putting closes → s.out ≡ [] → Took s fed past
     → Took (record s { place = place_behind closes; out = replied_with false closes [] r }) fed (with_mark (replied r) past)
 replied_putting s fed past closes r is quiet t =
-    let x = at_putting (phase_of past) closes (t.part ++ s.lent) (past.came ++ s.lent) (subst (λ (p : Place). StandsAt (phase_of past) p (t.part ++ s.lent) (past.came ++ s.lent)) is t.stands) in
-    let none = no_parts t.part s.lent x.3 in
+    let x = at_putting (phase_of past) closes (t.part ++ s.borrowed) (past.came ++ s.borrowed) (subst (λ (p : Place). StandsAt (phase_of past) p (t.part ++ s.borrowed) (past.came ++ s.borrowed)) is t.stands) in
+    let none = no_parts t.part s.borrowed x.3 in
     let new : SessionView = record s { place = place_behind closes; out = replied_with false closes [] r } in
     answer_took s new fed past (replied r) t (subst (λ (p : Phase). IsTextOf p (replied r) []) (sym x.1) refl) none.0 quiet
     (subst (λ (p : Phase). replied_with false closes [] r ≡ (answer_at p (replied r)).bytes) (sym x.1) (ap (λ (b : Bool). replied_with false b [] r) x.2))
     refl refl refl
-    (subst (λ (p : Phase). StandsAt (after p (replied r)) (place_behind closes) s.lent s.lent) (sym x.1)
-    (subst (λ (b : Bool). StandsAt (after (putting x.0) (replied r)) (place_behind b) s.lent s.lent) (sym x.2) (behind_stands x.0.closes (replied_with false x.0.closes [] r) s.lent none.1)))
+    (subst (λ (p : Phase). StandsAt (after p (replied r)) (place_behind closes) s.borrowed s.borrowed) (sym x.1)
+    (subst (λ (b : Bool). StandsAt (after (putting x.0) (replied r)) (place_behind b) s.borrowed s.borrowed) (sym x.2) (behind_stands x.0.closes (replied_with false x.0.closes [] r) s.borrowed none.1)))
 
 -- an upload was begun
 begun_phase : (head : Head) (r : Reply) (b : Bool) → is_begun r ≡ b → after (beginning head) (replied r) ≡ cond b (inside head) (behind (begin_refused head r))
@@ -76,39 +76,39 @@ pub begun : (s : SessionView) (fed : List ℕ) (past : Past) (framing : Framing)
     → is_begun r ≡ true → IsReading framing body [] [] → Took s fed past
     → Took (record s { place = places.Inside body closes; out = continued expects }) fed (with_mark (replied r) past)
 begun s fed past framing expects closes body r is quiet has reading t =
-    let x = at_beginning (phase_of past) framing expects closes (t.part ++ s.lent) (past.came ++ s.lent) (subst (λ (p : Place). StandsAt (phase_of past) p (t.part ++ s.lent) (past.came ++ s.lent)) is t.stands) in
-    let none = no_parts t.part s.lent x.5 in
+    let x = at_beginning (phase_of past) framing expects closes (t.part ++ s.borrowed) (past.came ++ s.borrowed) (subst (λ (p : Place). StandsAt (phase_of past) p (t.part ++ s.borrowed) (past.came ++ s.borrowed)) is t.stands) in
+    let none = no_parts t.part s.borrowed x.5 in
     let new : SessionView = record s { place = places.Inside body closes; out = continued expects } in
-    let stands : StandsAt (inside x.0) (places.Inside body closes) s.lent s.lent =
+    let stands : StandsAt (inside x.0) (places.Inside body closes) s.borrowed s.borrowed =
     (body, ap (λ (b : Bool). places.Inside body b) x.4, subst (λ (l : List ℕ). IsReading x.0.framing body l l) (sym none.1) (subst (λ (f : Framing). IsReading f body [] []) x.2 reading)) in
     answer_took s new fed past (replied r) t (subst (λ (p : Phase). IsTextOf p (replied r) []) (sym x.1) refl) none.0 quiet
     (subst (λ (p : Phase). continued expects ≡ (answer_at p (replied r)).bytes) (sym x.1) (ap continued x.3 ∙ sym (ap (λ (a : Answer). a.bytes) (begun_answer x.0 r true has))))
     refl refl refl
-    (subst (λ (p : Phase). StandsAt (after p (replied r)) (places.Inside body closes) s.lent s.lent) (sym x.1)
-    (subst (λ (p : Phase). StandsAt p (places.Inside body closes) s.lent s.lent) (sym (begun_phase x.0 r true has)) stands))
+    (subst (λ (p : Phase). StandsAt (after p (replied r)) (places.Inside body closes) s.borrowed s.borrowed) (sym x.1)
+    (subst (λ (p : Phase). StandsAt p (places.Inside body closes) s.borrowed s.borrowed) (sym (begun_phase x.0 r true has)) stands))
 
 -- the beginning of an upload was refused
 pub begin_denied : (s : SessionView) (fed : List ℕ) (past : Past) (framing : Framing) (expects closes ends : Bool) (r : Reply) → s.place ≡ places.Beginning framing expects closes → s.out ≡ []
     → is_begun r ≡ false → ends ≡ (closes || not (is_empty framing)) → Took s fed past
     → Took (record s { place = place_behind ends; out = replied_with false ends [] r }) fed (with_mark (replied r) past)
 begin_denied s fed past framing expects closes ends r is quiet denied e t =
-    let x = at_beginning (phase_of past) framing expects closes (t.part ++ s.lent) (past.came ++ s.lent) (subst (λ (p : Place). StandsAt (phase_of past) p (t.part ++ s.lent) (past.came ++ s.lent)) is t.stands) in
-    let none = no_parts t.part s.lent x.5 in
+    let x = at_beginning (phase_of past) framing expects closes (t.part ++ s.borrowed) (past.came ++ s.borrowed) (subst (λ (p : Place). StandsAt (phase_of past) p (t.part ++ s.borrowed) (past.came ++ s.borrowed)) is t.stands) in
+    let none = no_parts t.part s.borrowed x.5 in
     let new : SessionView = record s { place = place_behind ends; out = replied_with false ends [] r } in
     let same : ends ≡ (x.0.closes || not (is_empty x.0.framing)) = e ∙ ap (λ (b : Bool). b || not (is_empty framing)) x.4 ∙ ap (λ (f : Framing). x.0.closes || not (is_empty f)) x.2 in
     answer_took s new fed past (replied r) t (subst (λ (p : Phase). IsTextOf p (replied r) []) (sym x.1) refl) none.0 quiet
     (subst (λ (p : Phase). replied_with false ends [] r ≡ (answer_at p (replied r)).bytes) (sym x.1)
     (ap (λ (b : Bool). replied_with false b [] r) same ∙ sym (ap (λ (a : Answer). a.bytes) (begun_answer x.0 r false denied))))
     refl refl refl
-    (subst (λ (p : Phase). StandsAt (after p (replied r)) (place_behind ends) s.lent s.lent) (sym x.1)
-    (subst (λ (p : Phase). StandsAt p (place_behind ends) s.lent s.lent) (sym (begun_phase x.0 r false denied))
-    (subst (λ (b : Bool). StandsAt (behind (begin_refused x.0 r)) (place_behind b) s.lent s.lent) (sym same)
-    (behind_stands (x.0.closes || not (is_empty x.0.framing)) (begin_refused x.0 r).bytes s.lent none.1))))
+    (subst (λ (p : Phase). StandsAt (after p (replied r)) (place_behind ends) s.borrowed s.borrowed) (sym x.1)
+    (subst (λ (p : Phase). StandsAt p (place_behind ends) s.borrowed s.borrowed) (sym (begun_phase x.0 r false denied))
+    (subst (λ (b : Bool). StandsAt (behind (begin_refused x.0 r)) (place_behind b) s.borrowed s.borrowed) (sym same)
+    (behind_stands (x.0.closes || not (is_empty x.0.framing)) (begin_refused x.0 r).bytes s.borrowed none.1))))
 
 -- ---- failures
 
 ended : SessionView → Bool → UploadErr → SessionView
-ended s bare why = record s { lent = []; held = s.lent ++ s.held; place = places.Over; out = refused_with bare true (why_upload why) }
+ended s bare why = record s { borrowed = []; held = s.borrowed ++ s.held; place = places.Over; out = refused_with bare true (why_upload why) }
 
 -- a failure in the place of a reply, by the phase
 failed_at : (s : SessionView) (fed : List ℕ) (past : Past) (bare : Bool) (why : UploadErr) (t : Took s fed past) (p : Phase) → phase_of past ≡ p → IsTextOf p (failed why) []
@@ -121,33 +121,33 @@ failed_at s fed past bare why t p is text none quiet says ends =
     (subst (λ (q : Phase). StandsAt q places.Over [] []) (sym (ap (λ (q : Phase). after q (failed why)) is ∙ ends)) (refl, refl, refl))
 
 pub failed_asked : (s : SessionView) (fed : List ℕ) (past : Past) (bare closes : Bool) (why : UploadErr) → s.place ≡ places.Asked bare closes → s.out ≡ [] → Took s fed past
-    → Took (record s { lent = []; held = s.lent ++ s.held; place = places.Over; out = refused_with bare true (why_upload why) }) fed (with_mark (failed why) past)
+    → Took (record s { borrowed = []; held = s.borrowed ++ s.held; place = places.Over; out = refused_with bare true (why_upload why) }) fed (with_mark (failed why) past)
 unfolding ended
 failed_asked s fed past bare closes why is quiet t =
-    let x = at_asked (phase_of past) bare closes (t.part ++ s.lent) (past.came ++ s.lent) (subst (λ (p : Place). StandsAt (phase_of past) p (t.part ++ s.lent) (past.came ++ s.lent)) is t.stands) in
-    failed_at s fed past bare why t (asked x.0) x.1 refl (no_parts t.part s.lent x.4).0 quiet (ap (λ (b : Bool). refused_with b true (why_upload why)) x.2) refl
+    let x = at_asked (phase_of past) bare closes (t.part ++ s.borrowed) (past.came ++ s.borrowed) (subst (λ (p : Place). StandsAt (phase_of past) p (t.part ++ s.borrowed) (past.came ++ s.borrowed)) is t.stands) in
+    failed_at s fed past bare why t (asked x.0) x.1 refl (no_parts t.part s.borrowed x.4).0 quiet (ap (λ (b : Bool). refused_with b true (why_upload why)) x.2) refl
 
 pub failed_beginning : (s : SessionView) (fed : List ℕ) (past : Past) (framing : Framing) (expects closes : Bool) (why : UploadErr) → s.place ≡ places.Beginning framing expects closes → s.out ≡ []
     → Took s fed past
-    → Took (record s { lent = []; held = s.lent ++ s.held; place = places.Over; out = refused_with false true (why_upload why) }) fed (with_mark (failed why) past)
+    → Took (record s { borrowed = []; held = s.borrowed ++ s.held; place = places.Over; out = refused_with false true (why_upload why) }) fed (with_mark (failed why) past)
 unfolding ended
 failed_beginning s fed past framing expects closes why is quiet t =
-    let x = at_beginning (phase_of past) framing expects closes (t.part ++ s.lent) (past.came ++ s.lent) (subst (λ (p : Place). StandsAt (phase_of past) p (t.part ++ s.lent) (past.came ++ s.lent)) is t.stands) in
-    failed_at s fed past false why t (beginning x.0) x.1 refl (no_parts t.part s.lent x.5).0 quiet refl refl
+    let x = at_beginning (phase_of past) framing expects closes (t.part ++ s.borrowed) (past.came ++ s.borrowed) (subst (λ (p : Place). StandsAt (phase_of past) p (t.part ++ s.borrowed) (past.came ++ s.borrowed)) is t.stands) in
+    failed_at s fed past false why t (beginning x.0) x.1 refl (no_parts t.part s.borrowed x.5).0 quiet refl refl
 
 pub failed_putting : (s : SessionView) (fed : List ℕ) (past : Past) (closes : Bool) (why : UploadErr) → s.place ≡ places.Putting closes → s.out ≡ [] → Took s fed past
-    → Took (record s { lent = []; held = s.lent ++ s.held; place = places.Over; out = refused_with false true (why_upload why) }) fed (with_mark (failed why) past)
+    → Took (record s { borrowed = []; held = s.borrowed ++ s.held; place = places.Over; out = refused_with false true (why_upload why) }) fed (with_mark (failed why) past)
 unfolding ended
 failed_putting s fed past closes why is quiet t =
-    let x = at_putting (phase_of past) closes (t.part ++ s.lent) (past.came ++ s.lent) (subst (λ (p : Place). StandsAt (phase_of past) p (t.part ++ s.lent) (past.came ++ s.lent)) is t.stands) in
-    failed_at s fed past false why t (putting x.0) x.1 refl (no_parts t.part s.lent x.3).0 quiet refl refl
+    let x = at_putting (phase_of past) closes (t.part ++ s.borrowed) (past.came ++ s.borrowed) (subst (λ (p : Place). StandsAt (phase_of past) p (t.part ++ s.borrowed) (past.came ++ s.borrowed)) is t.stands) in
+    failed_at s fed past false why t (putting x.0) x.1 refl (no_parts t.part s.borrowed x.3).0 quiet refl refl
 
 -- the upload broke while its content came
 pub broke_inside : (s : SessionView) (fed : List ℕ) (past : Past) (body : Body) (closes : Bool) (why : UploadErr) → s.place ≡ places.Inside body closes → s.out ≡ [] → Took s fed past
-    → Took (record s { lent = []; held = s.lent ++ s.held; place = places.Over; out = refused_with false true (why_upload why) }) fed (with_mark (broke why) past)
+    → Took (record s { borrowed = []; held = s.borrowed ++ s.held; place = places.Over; out = refused_with false true (why_upload why) }) fed (with_mark (broke why) past)
 broke_inside s fed past body closes why is quiet t =
-    let x = at_inside (phase_of past) body closes (t.part ++ s.lent) (past.came ++ s.lent) (subst (λ (p : Place). StandsAt (phase_of past) p (t.part ++ s.lent) (past.came ++ s.lent)) is t.stands) in
-    let new : SessionView = record s { lent = []; held = s.lent ++ s.held; place = places.Over; out = refused_with false true (why_upload why) } in
+    let x = at_inside (phase_of past) body closes (t.part ++ s.borrowed) (past.came ++ s.borrowed) (subst (λ (p : Place). StandsAt (phase_of past) p (t.part ++ s.borrowed) (past.came ++ s.borrowed)) is t.stands) in
+    let new : SessionView = record s { borrowed = []; held = s.borrowed ++ s.held; place = places.Over; out = refused_with false true (why_upload why) } in
     advance s new fed past (broke why) t.part t (subst (λ (p : Phase). IsTextOf p (broke why) t.part) (sym x.1) tt) refl quiet
     (subst (λ (p : Phase). refused_with false true (why_upload why) ≡ (answer_at p (broke why)).bytes) (sym x.1) refl)
     refl refl
@@ -160,7 +160,7 @@ not_awaits p body closes part came x due =
     let e : false ≡ true = sym (ap awaits (at_inside p body closes part came x).1) ∙ due in
     absurd cc
 
--- where an answer comes next nothing is lent, nor behind a change that lends nothing
-pub none_lent : (s new : SessionView) (fed : List ℕ) (past : Past) → new.lent ≡ s.lent → Took s fed past → awaits (phase_of past) ≡ true → new.lent ≡ []
-none_lent s new fed past same t due =
-    same ∙ (no_parts t.part s.lent (nothing_taken (phase_of past) s.place (t.part ++ s.lent) (past.came ++ s.lent) due t.stands)).1
+-- where an answer comes next nothing is borrowed, nor behind a change that lends nothing
+pub none_borrowed : (s new : SessionView) (fed : List ℕ) (past : Past) → new.borrowed ≡ s.borrowed → Took s fed past → awaits (phase_of past) ≡ true → new.borrowed ≡ []
+none_borrowed s new fed past same t due =
+    same ∙ (no_parts t.part s.borrowed (nothing_taken (phase_of past) s.place (t.part ++ s.borrowed) (past.came ++ s.borrowed) due t.stands)).1

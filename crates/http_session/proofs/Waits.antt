@@ -11,7 +11,7 @@ use Rattle.http_session.specs.Taken.{Past, phase_of, is_inside}
 use Rattle.http_session.specs.Steps.{IsStill, Gives, wait_step}
 
 -- where a head may still come there is room for more bytes
-room_behind : (s : SessionView) → s.lent ≡ [] → length s.held < head_limit → waiting s < 32768
+room_behind : (s : SessionView) → s.borrowed ≡ [] → length s.held < head_limit → waiting s < 32768
 unfolding head_limit
 room_behind s none few =
     let short : length s.held < 16384 = few in

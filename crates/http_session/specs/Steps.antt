@@ -14,21 +14,21 @@ use Rattle.http_session.specs.declared.step.Step.TheVariants as steps
 use Rattle.http_session.specs.Views.{SessionView, waiting}
 use Rattle.http_session.specs.Taken.{Past, phase_of, with_mark, Took, reads, is_inside}
 
--- a content that came whole, or is refused, is what was lent of it
-abbrev pub IsLent : Mark → List ℕ → Type 0
-IsLent (content bytes) came = bytes ≡ came
-IsLent (spoiled bytes why) came = bytes ≡ came
-IsLent (refused why bare) came = came ≡ []
-IsLent (accepted head) came = came ≡ []
-IsLent (replied r) came = came ≡ []
-IsLent (failed why) came = came ≡ []
-IsLent (broke why) came = Unit {0}
+-- a content that came whole, or is refused, is what was borrowed of it
+abbrev pub IsBorrowed : Mark → List ℕ → Type 0
+IsBorrowed (content bytes) came = bytes ≡ came
+IsBorrowed (spoiled bytes why) came = bytes ≡ came
+IsBorrowed (refused why bare) came = came ≡ []
+IsBorrowed (accepted head) came = came ≡ []
+IsBorrowed (replied r) came = came ≡ []
+IsBorrowed (failed why) came = came ≡ []
+IsBorrowed (broke why) came = Unit {0}
 
 -- what was asked is asked at the mark that came
 pub record Asks (fed : List ℕ) (past : Past) (new : SessionView) (ask : Ask) : Type 0 where
   pub mark : Mark
   pub asked : ask_at (phase_of past) mark ≡ Some ask
-  pub lent : IsLent mark past.came
+  pub borrowed : IsBorrowed mark past.came
   pub took : Took new fed (with_mark mark past)
 
 -- Nothing is left to say or to take, and the fed bytes decide nothing more. Bytes come next.
@@ -37,7 +37,7 @@ pub record IsStill (fed : List ℕ) (past : Past) (new : SessionView) : Type 0 w
   pub history : IsHistory fed past.marks past.came
   pub reads : reads (phase_of past) ≡ true
   pub quiet : new.out ≡ []
-  pub taken : new.lent ≡ []
+  pub taken : new.borrowed ≡ []
 
 -- there is something to say: at a head that is refused now, or as before
 abbrev pub Says : List ℕ → Past → SessionView → Type 0
@@ -51,7 +51,7 @@ abbrev pub Gives : List ℕ → Past → SessionView → Step → Type 0
 Gives fed past new steps.Need = IsStill fed past new × (new.ended ≡ false) × (new.longer ≡ false) × (waiting new < 32768)
 Gives fed past new (steps.Ask ask) = Asks fed past new ask
 -- a content is handed on where nothing is left to say: behind `100 Continue`, where the request waits for that
-Gives fed past new (steps.Body n) = Took new fed past × (is_inside (phase_of past) ≡ true) × (0 < n) × (n ≡ length new.lent) × (new.out ≡ [])
+Gives fed past new (steps.Body n) = Took new fed past × (is_inside (phase_of past) ≡ true) × (0 < n) × (n ≡ length new.borrowed) × (new.out ≡ [])
 Gives fed past new steps.Say = Says fed past new
 -- the input ended between requests
 Gives fed past new (steps.Done ends.Clean) = IsStill fed past new × (new.ended ≡ true) × (phase_of past ≡ between) × (new.held ≡ [])

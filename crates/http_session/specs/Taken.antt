@@ -11,7 +11,7 @@ use Rattle.http_session.specs.declared.place.Place.TheVariants as places
 use Rattle.http_session.specs.Bodies.{IsReading}
 use Rattle.http_session.specs.Views.{SessionView}
 
--- what happened: the marks, what was lent and taken of the content that is read, and what was said
+-- what happened: the marks, what was borrowed and taken of the content that is read, and what was said
 pub record Past : Type 0 where
   pub marks : List Mark
   pub came : List ℕ
@@ -43,9 +43,9 @@ StandsAt over place part came = (place ≡ places.Over) × (part ≡ []) × (cam
 pub record Took (s : SessionView) (fed : List ℕ) (past : Past) : Type 0 where
   pub text : List ℕ
   pub part : List ℕ
-  pub parts : fed ≡ text ++ (part ++ (s.lent ++ s.held))
+  pub parts : fed ≡ text ++ (part ++ (s.borrowed ++ s.held))
   pub spans : Spans between past.marks text
-  pub stands : StandsAt (phase_of past) s.place (part ++ s.lent) (past.came ++ s.lent)
+  pub stands : StandsAt (phase_of past) s.place (part ++ s.borrowed) (past.came ++ s.borrowed)
   pub said : said_in between past.marks ≡ past.said ++ s.out
   pub count : s.total ≡ length fed
   pub longer : s.longer ≡ true → length fed ≡ 2 ^ 40

@@ -7,10 +7,10 @@ use Rattle.http_front.specs.Responses.{continue}
 use Rattle.http_session.specs.declared.place.Place.{Place}
 use Rattle.http_session.specs.declared.place.Place.TheVariants as places
 
--- the bytes that are lent, those that are held behind them, where it stands, what there is still to say, how many bytes were fed,
+-- the bytes that are borrowed, those that are held behind them, where it stands, what there is still to say, how many bytes were fed,
 -- whether the input ended, and whether it is longer than a session reads
 pub record SessionView : Type 0 where
-  pub lent : List ℕ
+  pub borrowed : List ℕ
   pub held : List ℕ
   pub place : Place
   pub out : List ℕ
@@ -18,19 +18,19 @@ pub record SessionView : Type 0 where
   pub ended : Bool
   pub longer : Bool
 
--- how many bytes wait: those that are lent and those that are held
+-- how many bytes wait: those that are borrowed and those that are held
 abbrev pub waiting : SessionView → ℕ
-waiting s = length s.lent + length s.held
+waiting s = length s.borrowed + length s.held
 
--- what is lent and held is as it was, and what is known of the input: only where it stands and what there is to say may differ
+-- what is borrowed and held is as it was, and what is known of the input: only where it stands and what there is to say may differ
 pub record KeepsInput (old new : SessionView) : Type 0 where
-  pub lent : new.lent ≡ old.lent
+  pub borrowed : new.borrowed ≡ old.borrowed
   pub held : new.held ≡ old.held
   pub total : new.total ≡ old.total
   pub ended : new.ended ≡ old.ended
   pub longer : new.longer ≡ old.longer
 
--- as many bytes wait as did, lent or held, and what is known of the input is as it was
+-- as many bytes wait as did, borrowed or held, and what is known of the input is as it was
 pub record KeepsCount (old new : SessionView) : Type 0 where
   pub waits : waiting new ≡ waiting old
   pub total : new.total ≡ old.total
@@ -39,7 +39,7 @@ pub record KeepsCount (old new : SessionView) : Type 0 where
 
 -- how many bytes it can be fed
 abbrev pub room_in : SessionView → ℕ
-room_in s = min (32768 - (length s.lent + length s.held)) (2 ^ 40 - s.total)
+room_in s = min (32768 - (length s.borrowed + length s.held)) (2 ^ 40 - s.total)
 
 -- whether it waits for an answer
 abbrev pub awaits_at : Place → Bool
@@ -99,11 +99,11 @@ reads_at (places.Inside body closes) = true
 reads_at (places.Putting closes) = false
 reads_at places.Over = false
 
--- It waits for bytes: no answer is due, it hasn't ended, nothing is left to say, no content is lent, and the input may go on. There is room.
+-- It waits for bytes: no answer is due, it hasn't ended, nothing is left to say, no content is borrowed, and the input may go on. There is room.
 pub record NeedsBytes (s : SessionView) : Type 0 where
   pub reads : reads_at s.place ≡ true
   pub quiet : s.out ≡ []
-  pub taken : s.lent ≡ []
+  pub taken : s.borrowed ≡ []
   pub going : s.ended ≡ false
   pub short : s.longer ≡ false
   pub room : waiting s < 32768

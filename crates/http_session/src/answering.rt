@@ -59,12 +59,12 @@ impl Session {
 
     /// Says that an upload failed, or that memory was refused, and ends.
     fn fail(&mut self, why: UploadErr, bare: bool)
-        ensures { self.new ≡ record self.old { lent = []; held = self.old.lent ++ self.old.held; place = places.Over; out = refused_with bare true (why_upload why) } }
+        ensures { self.new ≡ record self.old { borrowed = []; held = self.old.borrowed ++ self.old.held; place = places.Over; out = refused_with bare true (why_upload why) } }
     {
         let (status, words) = upload_answer(why);
         self.out_len = refusal_response(status, words.as_bytes(), bare, true, &mut self.out);
         self.place = Place::Over;
-        self.lent = 0;
+        self.borrowed = 0;
     }
 
     /// The reply to what was asked. Where no answer is due nothing changes.
@@ -72,7 +72,7 @@ impl Session {
         ensures answered { (fed : List ℕ) (past : Past) → Took self.old fed past → awaits (phase_of past) ≡ true → Took self.new fed (with_mark (replied reply.now) past) }
         ensures none_due { awaits_at self.old.place ≡ false → self.new ≡ self.old }
         ensures kept { KeepsInput self.old self.new }
-        ensures none_lent { (fed : List ℕ) (past : Past) → Took self.old fed past → awaits (phase_of past) ≡ true → self.new.lent ≡ [] }
+        ensures none_borrowed { (fed : List ℕ) (past : Past) → Took self.old fed past → awaits (phase_of past) ≡ true → self.new.borrowed ≡ [] }
     {
         match self.place {
             Place::Asked { bare, closes } => self.say_reply(reply, bare, closes),

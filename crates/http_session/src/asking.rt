@@ -42,7 +42,7 @@ fn ask_of(head: Head) -> Ask
 impl Session {
     /// Takes an accepted head of that length, and asks for its first call.
     fn ask(&mut self, head: Head, length: usize) -> Step
-        requires none { self.old.lent ≡ [] }
+        requires none { self.old.borrowed ≡ [] }
         requires quiet { self.old.out ≡ [] }
         requires place { self.old.place ≡ places.Between }
         requires still { drop_blank self.old.held ≡ self.old.held }
@@ -58,7 +58,7 @@ impl Session {
 
     /// Refuses the head in front.
     fn refuse(&mut self, refusal: HeadErr, bare: bool) -> Step
-        requires none { self.old.lent ≡ [] }
+        requires none { self.old.borrowed ≡ [] }
         requires quiet { self.old.out ≡ [] }
         requires place { self.old.place ≡ places.Between }
         requires still { drop_blank self.old.held ≡ self.old.held }
@@ -73,7 +73,7 @@ impl Session {
 
     /// What comes next where no whole head is there.
     fn wait_for_head(&mut self) -> Step
-        requires none { self.old.lent ≡ [] }
+        requires none { self.old.borrowed ≡ [] }
         requires place { self.old.place ≡ places.Between }
         requires still { drop_blank self.old.held ≡ self.old.held }
         requires head { IsLook self.old.held looks.Open }
@@ -88,7 +88,7 @@ impl Session {
 
     /// What comes next between requests.
     pub(crate) fn next_head(&mut self) -> Step
-        requires none { self.old.lent ≡ [] }
+        requires none { self.old.borrowed ≡ [] }
         requires place { self.old.place ≡ places.Between }
         requires quiet { self.old.out ≡ [] }
         ensures gives { (fed : List ℕ) (past : Past) → Took self.old fed past → Gives fed past self.new result }

@@ -8,7 +8,7 @@
 //! written by the driver behind it.
 //!
 //! What it did is a *history* of marks (crate `session_history`). The contract of each call says how that goes on (`Took`,
-//! specs/Taken.antt): of all bytes that were fed the machine took those of the marks, and of the content that it is in what it lent so
+//! specs/Taken.antt): of all bytes that were fed the machine took those of the marks, and of the content that it is in what it gave to be borrowed so
 //! far; what it said and has still to say is what is said at the marks. None of this depends on the pieces in which the bytes were
 //! fed, and so two sessions over the same bytes with the same answers did the same ([`two_sessions`]).
 //!

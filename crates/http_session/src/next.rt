@@ -36,7 +36,7 @@ impl Session {
 
     /// Refuses the content that is read: its upload is to be ended first.
     fn spoil(&mut self, refusal: BodyErr) -> Step
-        requires { self.old.lent ≡ [] }
+        requires { self.old.borrowed ≡ [] }
         ensures step { result ≡ steps.Ask asks.Abort }
         ensures new { self.new ≡ record self.old { held = []; place = places.Over; out = refused_with false true (why_body refusal) } }
     {
@@ -47,7 +47,7 @@ impl Session {
 
     /// Takes framing, behind which the content stands at that place.
     fn take_framing(&mut self, body: Body, closes: bool, count: usize)
-        requires none { self.old.lent ≡ [] }
+        requires none { self.old.borrowed ≡ [] }
         requires within { count ≤ length self.old.held }
         ensures { self.new ≡ record self.old { held = drop count self.old.held; place = places.Inside body closes } }
     {
@@ -57,10 +57,10 @@ impl Session {
 
     /// Lends content, behind which it stands at that place.
     fn lend_content(&mut self, body: Body, closes: bool, count: usize) -> Step
-        requires none { self.old.lent ≡ [] }
+        requires none { self.old.borrowed ≡ [] }
         requires within { count ≤ length self.old.held }
         ensures step { result ≡ steps.Body count }
-        ensures new { self.new ≡ record self.old { lent = take count self.old.held; held = drop count self.old.held; place = places.Inside body closes } }
+        ensures new { self.new ≡ record self.old { borrowed = take count self.old.held; held = drop count self.old.held; place = places.Inside body closes } }
     {
         self.lend(count);
         self.place = Place::Inside { body, closes };
@@ -69,7 +69,7 @@ impl Session {
 
     /// What comes next in a content.
     fn next_content(&mut self, body: Body, closes: bool) -> Step
-        requires none { self.old.lent ≡ [] }
+        requires none { self.old.borrowed ≡ [] }
         requires quiet { self.old.out ≡ [] }
         requires place { self.old.place ≡ places.Inside body closes }
         ensures gives { (fed : List ℕ) (past : Past) → Took self.old fed past → Gives fed past self.new result }
@@ -99,8 +99,10 @@ impl Session {
         if self.out_len > 0 {
             return Step::Say;
         }
-        if self.lent > 0 {
-            return Step::Body { length: self.lent };
+        if self.borrowed > 0 {
+            return Step::Body {
+                length: self.borrowed,
+            };
         }
         match self.place {
             Place::Between => self.next_head(),

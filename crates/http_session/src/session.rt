@@ -25,8 +25,8 @@ pub struct Session {
     pub(crate) buffer: Buffer,
     /// The first bytes, in which no head stands.
     pub(crate) scanned: usize,
-    /// How many of the first bytes are lent.
-    pub(crate) lent: usize,
+    /// How many of the first bytes are borrowed.
+    pub(crate) borrowed: usize,
     pub(crate) place: Place,
     /// What there is to say, in the first bytes.
     pub(crate) out: [u8; 1024],
@@ -43,9 +43,9 @@ impl Model for Session {
 
     ghost Value = { SessionView };
 
-    ghost view = { λ s. record { lent = take s.lent s.buffer; held = drop s.lent s.buffer; place = s.place; out = take s.out_len s.out; total = s.total; ended = s.ended; longer = s.longer } };
+    ghost view = { λ s. record { borrowed = take s.borrowed s.buffer; held = drop s.borrowed s.buffer; place = s.place; out = take s.out_len s.out; total = s.total; ended = s.ended; longer = s.longer } };
 
-    ghost invariant = { λ s. (s.lent ≤ length s.buffer) × (s.scanned ≤ length s.buffer) × HasNoHead (take s.scanned s.buffer) × (s.out_len ≤ 1024) × (s.total ≤ 2 ^ 40) × (awaits_at s.place ≡ true → s.out_len ≡ 0) };
+    ghost invariant = { λ s. (s.borrowed ≤ length s.buffer) × (s.scanned ≤ length s.buffer) × HasNoHead (take s.scanned s.buffer) × (s.out_len ≤ 1024) × (s.total ≤ 2 ^ 40) × (awaits_at s.place ≡ true → s.out_len ≡ 0) };
 }
 
 impl Session {
@@ -58,7 +58,7 @@ impl Session {
             alloc,
             buffer,
             scanned: 0,
-            lent: 0,
+            borrowed: 0,
             place: Place::Between,
             out: [0; 1024],
             out_len: 0,
@@ -88,7 +88,7 @@ impl Session {
     /// Puts as many of the bytes behind as fit.
     fn keep(&mut self, bytes: &[u8]) -> usize
         requires { self.old.total + length bytes.now ≤ 2 ^ 40 }
-        ensures count { result ≡ min (length bytes.now) (32768 - (length self.old.lent + length self.old.held)) }
+        ensures count { result ≡ min (length bytes.now) (32768 - (length self.old.borrowed + length self.old.held)) }
         ensures new { self.new ≡ record self.old { held = self.old.held ++ take result bytes.now; total = self.old.total + result } }
     {
         let count = self.buffer.feed(bytes);
@@ -115,7 +115,7 @@ impl Session {
 
     /// Whether content may come, where it reads one of which nothing was taken yet: whether it isn't known to be empty.
     pub fn expects_content(&self) -> bool
-        ensures { (fed : List ℕ) (past : Past) (head : Head) → Took self.now fed past → phase_of past ≡ inside head → past.came ≡ [] → self.now.lent ≡ [] → result ≡ not (is_empty head.framing) }
+        ensures { (fed : List ℕ) (past : Past) (head : Head) → Took self.now fed past → phase_of past ≡ inside head → past.came ≡ [] → self.now.borrowed ≡ [] → result ≡ not (is_empty head.framing) }
     {
         match self.place {
             Place::Inside { body, closes: _ } => body.expects(),
@@ -123,33 +123,33 @@ impl Session {
         }
     }
 
-    /// The content that is lent.
+    /// The content that is borrowed.
     pub fn body(&self) -> &[u8]
-        ensures { result.now ≡ self.now.lent }
+        ensures { result.now ≡ self.now.borrowed }
     {
-        &self.buffer.held()[..self.lent]
+        &self.buffer.held()[..self.borrowed]
     }
 
-    /// The content that is lent was taken.
+    /// The content that is borrowed was taken.
     pub fn body_taken(&mut self)
-        ensures new { self.new ≡ record self.old { lent = [] } }
-        ensures taken { (fed : List ℕ) (past : Past) → Took self.old fed past → Took self.new fed (record past { came = past.came ++ self.old.lent }) }
+        ensures new { self.new ≡ record self.old { borrowed = [] } }
+        ensures taken { (fed : List ℕ) (past : Past) → Took self.old fed past → Took self.new fed (record past { came = past.came ++ self.old.borrowed }) }
     {
-        self.drop_lent();
+        self.drop_borrowed();
     }
 
-    /// Takes what is lent.
-    fn drop_lent(&mut self)
-        ensures { self.new ≡ record self.old { lent = [] } }
+    /// Takes what is borrowed.
+    fn drop_borrowed(&mut self)
+        ensures { self.new ≡ record self.old { borrowed = [] } }
     {
-        self.buffer.take(self.lent);
-        self.lent = 0;
+        self.buffer.take(self.borrowed);
+        self.borrowed = 0;
         self.scanned = 0;
     }
 
-    /// The bytes that are held, where none are lent.
+    /// The bytes that are held, where none are borrowed.
     pub(crate) fn held(&self) -> &[u8]
-        requires { self.now.lent ≡ [] }
+        requires { self.now.borrowed ≡ [] }
         ensures held { result.now ≡ self.now.held }
         ensures short { length result.now ≤ 32768 }
     {
@@ -173,12 +173,12 @@ impl Session {
 
     /// Takes bytes from the front.
     pub(crate) fn take(&mut self, count: usize)
-        requires none { self.old.lent ≡ [] }
+        requires none { self.old.borrowed ≡ [] }
         requires within { count ≤ length self.old.held }
         ensures { self.new ≡ record self.old { held = drop count self.old.held } }
     {
         self.buffer.take(count);
-        self.lent = 0;
+        self.borrowed = 0;
         if count > 0 {
             self.scanned = 0;
         }
@@ -186,16 +186,16 @@ impl Session {
 
     /// Lends the first bytes.
     pub(crate) fn lend(&mut self, count: usize)
-        requires none { self.old.lent ≡ [] }
+        requires none { self.old.borrowed ≡ [] }
         requires within { count ≤ length self.old.held }
-        ensures { self.new ≡ record self.old { lent = take count self.old.held; held = drop count self.old.held } }
+        ensures { self.new ≡ record self.old { borrowed = take count self.old.held; held = drop count self.old.held } }
     {
-        self.lent = count;
+        self.borrowed = count;
     }
 
     /// Takes all bytes, refuses what they ask, and ends the session.
     pub(crate) fn end_with(&mut self, status: u16, words: &RefusalWords, bare: bool)
-        requires { self.old.lent ≡ [] }
+        requires { self.old.borrowed ≡ [] }
         ensures { self.new ≡ record self.old { held = []; place = places.Over; out = refused_with bare true (why status words.now) } }
     {
         let count = self.held().len();
@@ -214,16 +214,16 @@ impl Session {
 
     /// How many of the first bytes are known to hold no head.
     pub(crate) fn scanned(&self) -> usize
-        requires { self.now.lent ≡ [] }
+        requires { self.now.borrowed ≡ [] }
         ensures within { result ≤ length self.now.held }
         ensures none { HasNoHead (take result self.now.held) }
     {
         self.scanned
     }
 
-    /// Whether bytes are held, where none are lent.
+    /// Whether bytes are held, where none are borrowed.
     pub(crate) fn has_held(&self) -> bool
-        requires { self.now.lent ≡ [] }
+        requires { self.now.borrowed ≡ [] }
         ensures some { result ≡ true → 0 < length self.now.held }
         ensures none { result ≡ false → self.now.held ≡ [] }
     {
@@ -232,7 +232,7 @@ impl Session {
 
     /// Notes that the bytes hold no head, so that none of them is looked at again for one.
     pub(crate) fn note_scanned(&mut self)
-        requires none { self.old.lent ≡ [] }
+        requires none { self.old.borrowed ≡ [] }
         requires no_head { HasNoHead self.old.held }
         ensures { self.new ≡ self.old }
     {
@@ -241,7 +241,7 @@ impl Session {
 
     /// Takes the line ends in front.
     pub(crate) fn skip_blank(&mut self)
-        requires { self.old.lent ≡ [] }
+        requires { self.old.borrowed ≡ [] }
         ensures { self.new ≡ record self.old { held = drop_blank self.old.held } }
     {
         let count = blank_len(self.held());

@@ -8,7 +8,7 @@ pub enum Step {
     Need,
     /// Make this call, and hand its reply over. [`Ask::Abort`] has no reply.
     Ask(Ask),
-    /// Take the content that is lent, of so many bytes.
+    /// Take the content that is borrowed, of so many bytes.
     Body { length: usize },
     /// Write what there is to say.
     Say,

@@ -51,7 +51,7 @@ fn asset(alloc: Global) -> Result<Asset, Fail> {
         blob: BlobRef {
             store: StoreName::parse(alloc, b"default")?,
             id: BlobId::made(1, &[0; 10]),
-            stamp: 1,
+            timestamp: 1,
         },
         size: 3,
         sha1: [0; 20],

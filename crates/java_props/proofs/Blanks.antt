@@ -12,9 +12,9 @@ is_slash : (b : ℕ) → eqb b 92 ≡ true → b ≡ 92
 is_slash b h = grind (arith, nat_tests)
 
 -- the first character of what is left of the line
-pub front : (bytes : List ℕ) (at : ℕ) → at < length bytes → Stands bytes at → ends_at bytes at ≡ false
+pub prefix : (bytes : List ℕ) (at : ℕ) → at < length bytes → Stands bytes at → ends_at bytes at ≡ false
     → (tail : List Cell) × (line bytes at ≡ record { at = at; byte = get_or bytes at 0 } ∷ tail)
-front bytes at h stands e = by_slash (eqb (get_or bytes at 0) 92) refl where
+prefix bytes at h stands e = by_slash (eqb (get_or bytes at 0) 92) refl where
   by_slash : (s : Bool) → eqb (get_or bytes at 0) 92 ≡ s → (tail : List Cell) × (line bytes at ≡ record { at = at; byte = get_or bytes at 0 } ∷ tail)
   by_slash true k = let b = is_slash (get_or bytes at 0) k in let s = stands h b in (_, (two_step bytes at (at + 1 + 1) s.0 b s.1 refl).0)
   by_slash false k = (_, (one_step bytes at (at + 1) h e k refl).0)
@@ -62,7 +62,7 @@ pub blank_stop : (bytes : List ℕ) (at : ℕ) → at < length bytes → Stands 
 blank_stop bytes at h stands w = by_end (ends_at bytes at) refl where
   by_end : (e : Bool) → ends_at bytes at ≡ e → trim (line bytes at) ≡ line bytes at
   by_end true e = blank_end bytes at (λ _. e)
-  by_end false e = let f = front bytes at h stands e in ap trim f.1 ∙ trim_cons (record { at = at; byte = get_or bytes at 0 }) f.0 false w ∙ sym f.1
+  by_end false e = let f = prefix bytes at h stands e in ap trim f.1 ∙ trim_cons (record { at = at; byte = get_or bytes at 0 }) f.0 false w ∙ sym f.1
 
 -- a piece is white space, or a separator, where its first character is
 first_blank : (c : Cell) (cells : List Cell) → is_blank (piece_at c cells) ≡ is_white c
@@ -121,7 +121,7 @@ unfolding pieces
 no_separator_here bytes at h stands s = by_end (ends_at bytes at) refl where
   by_end : (e : Bool) → ends_at bytes at ≡ e → after_separator (pieces 0 (line bytes at)) ≡ pieces 0 (line bytes at)
   by_end true e = no_separator_end bytes at (λ _. e)
-  by_end false e = let f = front bytes at h stands e in let c : Cell = record { at = at; byte = get_or bytes at 0 } in
+  by_end false e = let f = prefix bytes at h stands e in let c : Cell = record { at = at; byte = get_or bytes at 0 } in
       ap (λ l. after_separator (pieces 0 l)) f.1
       ∙ ap (λ b. cond b (pieces (length_after c f.0) f.0) (piece_at c f.0 ∷ pieces (length_after c f.0) f.0)) (first_separator c f.0 ∙ s)
       ∙ sym (ap (pieces 0) f.1)

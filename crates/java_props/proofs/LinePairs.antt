@@ -3,11 +3,11 @@ use Rattle.std.proofs.Common.{◌≡◌, ◌<◌, ◌≤◌, ltb, MatchResult, I
 use Rattle.std.proofs.lemmas.Bool.Decides.{nat_tests}
 use Rattle.java_props.specs.declared.PropsErr.{PropsErr}
 use Rattle.java_props.specs.declared.PropsErr.TheVariants.{TooLong, TooMany}
-use Rattle.java_props.specs.Lines.{Cell, with_front, natural_lines, trim, goes_on, joined, logical_lines, lines_of}
+use Rattle.java_props.specs.Lines.{Cell, with_prefix, natural_lines, trim, goes_on, joined, logical_lines, lines_of}
 use Rattle.java_props.specs.From.{rest, go_on, middle, head_of, others_of, line, later, lines_from, ends_at, Stands, AtEnd}
 use Rattle.java_props.specs.Kept.{put, has_room}
 use Rattle.java_props.specs.Reading.{Piece, pieces, text_of, key_part, value_part, ◌>>=◌, with_pair, with_trimmed, with_lines, reading}
-use Rattle.java_props.proofs.Blanks.{front}
+use Rattle.java_props.proofs.Blanks.{prefix}
 use Rattle.java_props.proofs.Steps.{line_ends}
 
 -- what is said of a result that is known to be a refusal
@@ -40,7 +40,7 @@ with_key pairs at ps key b h r =
 -- a line whose first character other than white space stands at `first`
 trimmed : (pairs : List (List ℕ × List ℕ)) (bytes : List ℕ) (first : ℕ) (l : List Cell) → l ≡ line bytes first → first < length bytes → Stands bytes first → ends_at bytes first ≡ false
     → with_trimmed pairs l ≡ with_pair pairs first (pieces 0 (line bytes first))
-trimmed pairs bytes first l t h stands e = let f = front bytes first h stands e in
+trimmed pairs bytes first l t h stands e = let f = prefix bytes first h stands e in
     ap (with_trimmed pairs) (t ∙ f.1) ∙ ap (λ l. with_pair pairs first (pieces 0 l)) (sym f.1)
 
 pub pair_none : (pairs : List (List ℕ × List ℕ)) (bytes : List ℕ) (first : ℕ) (l : List Cell) → l ≡ line bytes first → AtEnd bytes first → with_trimmed pairs l ≡ Ok pairs
@@ -59,15 +59,15 @@ pub pair_value : (pairs : List (List ℕ × List ℕ)) (bytes : List ℕ) (first
     → with_trimmed pairs l ≡ (value >>= λ v. Ok (put key v pairs))
 pair_value pairs bytes first l key value t h stands n k r v = trimmed pairs bytes first l t h stands n ∙ with_key pairs first (pieces 0 (line bytes first)) key true k r ∙ ap (λ r. r >>= λ v. Ok (put key v pairs)) v
 
-with_front-cons : (x : List Cell) (ls : List (List Cell)) → with_front x ls ≡ head_of (with_front x ls) ∷ others_of (with_front x ls)
-with_front-cons x [] = refl
-with_front-cons x (l ∷ ls) = refl
+with_prefix-cons : (x : List Cell) (ls : List (List Cell)) → with_prefix x ls ≡ head_of (with_prefix x ls) ∷ others_of (with_prefix x ls)
+with_prefix-cons x [] = refl
+with_prefix-cons x (l ∷ ls) = refl
 
 go_on-cons : (ls : List (List Cell)) → go_on ls ≡ head_of (go_on ls) ∷ others_of (go_on ls)
 go_on-cons [] = refl
 go_on-cons (l ∷ ls) = by_end (goes_on l) where
   by_end : (g : Bool) → joined g l (logical_lines g ls) ≡ head_of (joined g l (logical_lines g ls)) ∷ others_of (joined g l (logical_lines g ls))
-  by_end true = with_front-cons _ (logical_lines true ls)
+  by_end true = with_prefix-cons _ (logical_lines true ls)
   by_end false = refl
 
 -- the pairs of a line and of those after it

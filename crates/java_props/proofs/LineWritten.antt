@@ -5,7 +5,7 @@ use Rattle.std.proofs.Math.Utf8.{scalar, scalars}
 use Rattle.std.proofs.lemmas.Bool.{false≢true}
 use Rattle.std.specs.List.{flat_map}
 use Rattle.java_props.specs.declared.PropsErr.{PropsErr}
-use Rattle.java_props.specs.Lines.{Cell, placed, with_front, natural_lines, trim, logical_lines}
+use Rattle.java_props.specs.Lines.{Cell, placed, with_prefix, natural_lines, trim, logical_lines}
 use Rattle.java_props.specs.From.{middle, head_of, others_of}
 use Rattle.java_props.specs.Kept.{put, has_room}
 use Rattle.java_props.specs.Reading.{pieces, text_of, key_part, after_key, after_blanks, after_gap, with_pair, ◌>>=◌}
@@ -136,7 +136,7 @@ line_back (b ∷ []) n r s = last (eqb b 92) refl where
   last false k = let e = not_true (ends b) (and_parts (not (ends b)) (is_safe (eqb b 92) []) s).0 in (
     n + 1 + 1,
     middle-one (record { at = n; byte = b }) (placed (n + 1) (10 ∷ r)) e k
-        ∙ ap (λ ls. with_front (record { at = n; byte = b } ∷ []) ls) (middle-end (record { at = n + 1; byte = 10 }) (placed (n + 1 + 1) r) refl),
+        ∙ ap (λ ls. with_prefix (record { at = n; byte = b } ∷ []) ls) (middle-end (record { at = n + 1; byte = 10 }) (placed (n + 1 + 1) r) refl),
   )
 line_back (b ∷ d ∷ t) n r s = more (eqb b 92) refl (λ h. line_back (d ∷ t) (n + 1) r h) (λ h. line_back t (n + 1 + 1) r h) where
   here : Cell
@@ -153,15 +153,15 @@ line_back (b ∷ d ∷ t) n r s = more (eqb b 92) refl (λ h. line_back (d ∷ t
       let h = and_parts (not (ends b)) (is_safe true (d ∷ t)) (ap (λ x. not (ends b) && is_safe x (d ∷ t)) (sym k) ∙ s) in
       let g = and_parts (not (ends d)) (is_safe false t) h.1 in
       let i = two g.1 in
-      (i.0, middle-two here next (placed (n + 1 + 1) (t ++ 10 ∷ r)) (not_true (ends b) h.0) k (not_true (ends d) g.0) ∙ ap (λ ls. with_front (here ∷ next ∷ []) ls) i.1)
+      (i.0, middle-two here next (placed (n + 1 + 1) (t ++ 10 ∷ r)) (not_true (ends b) h.0) k (not_true (ends d) g.0) ∙ ap (λ ls. with_prefix (here ∷ next ∷ []) ls) i.1)
   more false k one two =
       let h = and_parts (not (ends b)) (is_safe false (d ∷ t)) (ap (λ x. not (ends b) && is_safe x (d ∷ t)) (sym k) ∙ s) in
       let i = one h.1 in
-      (i.0, middle-one here (placed (n + 1) ((d ∷ t) ++ 10 ∷ r)) (not_true (ends b) h.0) k ∙ ap (λ ls. with_front (here ∷ []) ls) i.1)
+      (i.0, middle-one here (placed (n + 1) ((d ∷ t) ++ 10 ∷ r)) (not_true (ends b) h.0) k ∙ ap (λ ls. with_prefix (here ∷ []) ls) i.1)
 
-with_front-cons : (c : Cell) (ls : List (List Cell)) → with_front (c ∷ []) ls ≡ (c ∷ head_of ls) ∷ others_of ls
-with_front-cons c [] = refl
-with_front-cons c (l ∷ ls) = refl
+with_prefix-cons : (c : Cell) (ls : List (List Cell)) → with_prefix (c ∷ []) ls ≡ (c ∷ head_of ls) ∷ others_of ls
+with_prefix-cons c [] = refl
+with_prefix-cons c (l ∷ ls) = refl
 
 -- the same where no line before goes on
 pub line_kept : (t : List ℕ) (n : ℕ) (r : List ℕ) → is_safe false t ≡ true → IsKept t → (m : ℕ) × (logical_lines false (natural_lines false (placed n (t ++ 10 ∷ r))) ≡ placed n t ∷ logical_lines false (natural_lines false (placed m r)))
@@ -172,7 +172,7 @@ line_kept (b ∷ t) n r s k =
     let i = line_back (b ∷ t) n r s in
     let c : Cell = record { at = n; byte = b } in
     let cs = placed (n + 1) (t ++ 10 ∷ r) in
-    (i.0, keeps (natural_lines false (c ∷ cs)) (c ∷ head_of (natural_lines false cs)) (others_of (natural_lines false cs)) (trim-other c cs k.0 ∙ natural-one false c cs (not_true (ends b) h.0) ∙ with_front-cons c (natural_lines false cs)) k.1 ∙ i.1)
+    (i.0, keeps (natural_lines false (c ∷ cs)) (c ∷ head_of (natural_lines false cs)) (others_of (natural_lines false cs)) (trim-other c cs k.0 ∙ natural-one false c cs (not_true (ends b) h.0) ∙ with_prefix-cons c (natural_lines false cs)) k.1 ∙ i.1)
 
 -- no byte of a written line ends it
 pub line_safe : (ks vs : List ℕ) → scalars ks ≡ true → scalars vs ≡ true → is_safe false (flat_map guarded_text ks ++ 61 ∷ value_chars vs) ≡ true

@@ -7,7 +7,7 @@ use Rattle.std.proofs.lemmas.Bool.{cases_lt}
 use Rattle.std.proofs.lemmas.Bool.Decides.{nat_tests}
 use Rattle.java_props.specs.declared.PropsErr.{PropsErr}
 use Rattle.java_props.specs.declared.PropsErr.TheVariants.{TooLong, BadSurrogate, TooMany}
-use Rattle.java_props.specs.Lines.{Cell, is_backslash, is_feed, is_return, is_line_end, is_white, with_front, natural_lines, trim, without_last, part, joined, is_dropped, leads_on, logical_lines, lines_of}
+use Rattle.java_props.specs.Lines.{Cell, is_backslash, is_feed, is_return, is_line_end, is_white, with_prefix, natural_lines, trim, without_last, part, joined, is_dropped, leads_on, logical_lines, lines_of}
 use Rattle.java_props.specs.From.{rest}
 use Rattle.java_props.specs.Kept.{Entries, put, has_room}
 use Rattle.java_props.specs.Reading.{Piece, pieces, piece_at, length_after, escape_unit, ends_key, is_blank, is_plain, is_separator, key_part, after_key, after_blanks, after_separator, value_part, next_is_low, unit_is, unit_or_zero, char_of, text_of, key_of, line_value, with_pair, with_trimmed, with_line, with_lines, reading, ◌>>=◌}
@@ -27,16 +27,16 @@ all_append : (P : Cell → Type 0) (xs ys : List Cell) → AllByRecursion P xs �
 all_append P [] ys p q = q
 all_append P (x ∷ xs) ys p q = (p.0, all_append P xs ys p.1 q)
 
-all_front : (P : Cell → Type 0) (x : List Cell) (ls : List (List Cell)) → AllByRecursion P x → AllCells P ls → AllCells P (with_front x ls)
+all_prefix : (P : Cell → Type 0) (x : List Cell) (ls : List (List Cell)) → AllByRecursion P x → AllCells P ls → AllCells P (with_prefix x ls)
 unfolding AllCells
-all_front P x [] p q = (p, tt)
-all_front P x (l ∷ ls) p q = (all_append P x l p q.0, q.1)
+all_prefix P x [] p q = (p, tt)
+all_prefix P x (l ∷ ls) p q = (all_append P x l p q.0, q.1)
 
 all_natural : (P : Cell → Type 0) (b : Bool) (cs : List Cell) → AllByRecursion P cs → AllCells P (natural_lines b cs)
 unfolding natural_lines AllCells
 all_natural P b [] p = (tt, tt)
 all_natural P b (c ∷ cs) p = let ls = natural_lines (is_return c) cs in let more = all_natural P (is_return c) cs p.1 in
-    on_both (AllCells P) (b && is_feed c) _ _ more (on_both (AllCells P) (is_line_end c) _ _ (tt, more) (all_front P (c ∷ []) ls (p.0, tt) more))
+    on_both (AllCells P) (b && is_feed c) _ _ more (on_both (AllCells P) (is_line_end c) _ _ (tt, more) (all_prefix P (c ∷ []) ls (p.0, tt) more))
 
 all_trim : (P : Cell → Type 0) (cs : List Cell) → AllByRecursion P cs → AllByRecursion P (trim cs)
 unfolding trim
@@ -55,7 +55,7 @@ unfolding AllCells
 all_joined P joins l more p q =
     let r : AllByRecursion P (part joins l) = on_both (AllByRecursion P) joins _ _ (all_trim P l p) p in
     on_both (AllCells P) (is_dropped joins l) _ _ q
-    (on_both (AllCells P) (leads_on joins l) _ _ (all_front P (without_last (part joins l)) more (all_without_last P (part joins l) r) q) (r, q))
+    (on_both (AllCells P) (leads_on joins l) _ _ (all_prefix P (without_last (part joins l)) more (all_without_last P (part joins l) r) q) (r, q))
 
 all_logical : (P : Cell → Type 0) (joins : Bool) (ls : List (List Cell)) → AllCells P ls → AllCells P (logical_lines joins ls)
 unfolding logical_lines AllCells

@@ -1,7 +1,7 @@
 -- Lines that are skipped, and where logical lines begin.
 use Rattle.std.proofs.Common.{◌≡◌, ◌<◌, ◌≤◌, ◌+◌, ℕ, Bool, true, false, cond, not, eqb, ◌&&◌, List, [], ◌∷◌, length, get_or, refl, sym, ap, ◌∙◌, ⊎_elim}
 use Rattle.std.proofs.lemmas.Bool.{false≢true, cases_lt}
-use Rattle.java_props.specs.Lines.{Cell, is_mark_byte, with_front, natural_lines, trim, begins_skipped, is_skipped, goes_on, joined, logical_lines}
+use Rattle.java_props.specs.Lines.{Cell, is_mark_byte, with_prefix, natural_lines, trim, begins_skipped, is_skipped, goes_on, joined, logical_lines}
 use Rattle.java_props.specs.From.{rest, go_on, middle, trim_first, head_of, others_of, later, lines_from, ends_at, AtEnd}
 use Rattle.java_props.proofs.Middle.{rest-cons, rest-nil, natural-one, natural-end}
 use Rattle.java_props.proofs.Steps.{end_line, end_text}
@@ -26,15 +26,15 @@ keeps (l ∷ ls) x xs h k =
     let s : is_skipped l ≡ false = ap (λ t. begins_skipped (head_of t)) h ∙ k in
     ap (λ b. after_skip b l ls) s
 
-with_front-cons : (c : Cell) (ls : List (List Cell)) → with_front (c ∷ []) ls ≡ (c ∷ head_of ls) ∷ others_of ls
-with_front-cons c [] = refl
-with_front-cons c (l ∷ ls) = refl
+with_prefix-cons : (c : Cell) (ls : List (List Cell)) → with_prefix (c ∷ []) ls ≡ (c ∷ head_of ls) ∷ others_of ls
+with_prefix-cons c [] = refl
+with_prefix-cons c (l ∷ ls) = refl
 
 -- the natural lines from a byte that ends none
 natural_first : (bytes : List ℕ) (at : ℕ) → at < length bytes → ends_at bytes at ≡ false
     → natural_lines false (rest bytes at) ≡ (record { at = at; byte = get_or bytes at 0 } ∷ head_of (natural_lines false (rest bytes (at + 1)))) ∷ others_of (natural_lines false (rest bytes (at + 1)))
 natural_first bytes at h e = let here : Cell = record { at = at; byte = get_or bytes at 0 } in
-    ap (λ cs. natural_lines false cs) (rest-cons bytes at h) ∙ natural-one false here (rest bytes (at + 1)) e ∙ with_front-cons here (natural_lines false (rest bytes (at + 1)))
+    ap (λ cs. natural_lines false cs) (rest-cons bytes at h) ∙ natural-one false here (rest bytes (at + 1)) e ∙ with_prefix-cons here (natural_lines false (rest bytes (at + 1)))
 
 pub none_from : (bytes : List ℕ) (at : ℕ) → length bytes ≤ at → lines_from bytes at ≡ []
 unfolding logical_lines natural_lines trim

@@ -32,7 +32,7 @@ fn row(alloc: Global, number: u64) -> Result<Row, Stop>
     let blob = BlobRef {
         store: StoreName::parse(alloc, b"default")?,
         id: BlobId::made(1, &[0; 10]),
-        stamp: 1,
+        timestamp: 1,
     };
     let asset = Asset {
         blob,

@@ -23,8 +23,8 @@ name_is text name read =
     cc
 
 -- the first bytes of a file, as many as are read
-abbrev pub front_of : Option (List ℕ) → Option (List ℕ)
-front_of file = option_map (λ bytes. take small_limit bytes) file
+abbrev pub prefix_of : Option (List ℕ) → Option (List ℕ)
+prefix_of file = option_map (λ bytes. take small_limit bytes) file
 
 -- a text that is too long is refused
 too_long : (text : List ℕ) → 65536 < length text → config_of text ≡ Err (refused.Props (TooLong (length text)))
@@ -52,7 +52,7 @@ whole_or_long text bytes is =
 some_is : {A : Type 0} (x y : A) → Some x ≡ Some y → x ≡ y
 some_is x y e = cc
 
-pub file_gives : (file : Option (List ℕ)) (bytes : List ℕ) (settings : Settings) → Some bytes ≡ front_of file → Configures bytes settings → FileGives file settings
+pub file_gives : (file : Option (List ℕ)) (bytes : List ℕ) (settings : Settings) → Some bytes ≡ prefix_of file → Configures bytes settings → FileGives file settings
 file_gives None bytes settings is given = absurd cc
 file_gives (Some text) bytes settings is given =
     elim (whole_or_long text bytes (some_is bytes (take small_limit text) is)) [
@@ -60,7 +60,7 @@ file_gives (Some text) bytes settings is given =
       | inr long ↦ let refusal = too_long bytes long.1 in absurd cc
     ]
 
-pub file_is_bad : (file : Option (List ℕ)) (bytes : List ℕ) (why : ConfigErr) → Some bytes ≡ front_of file → IsRefused bytes why → IsBadFile file (key_told why)
+pub file_is_bad : (file : Option (List ℕ)) (bytes : List ℕ) (why : ConfigErr) → Some bytes ≡ prefix_of file → IsRefused bytes why → IsBadFile file (key_told why)
 file_is_bad None bytes why is refusal = absurd cc
 file_is_bad (Some text) bytes why is refusal =
     elim (whole_or_long text bytes (some_is bytes (take small_limit text) is)) [
@@ -72,7 +72,7 @@ file_is_bad (Some text) bytes why is refusal =
     ]
 
 -- why a configuration is refused
-pub refused_as : (told : Type 0) (file : Option (List ℕ)) (bytes : List ℕ) (before now : ℕ) (why : ConfigErr) → (told → Some bytes ≡ front_of file) → (why ≡ refused.NoMemory) ⊎ IsRefused bytes why
+pub refused_as : (told : Type 0) (file : Option (List ℕ)) (bytes : List ℕ) (before now : ℕ) (why : ConfigErr) → (told → Some bytes ≡ prefix_of file) → (why ≡ refused.NoMemory) ⊎ IsRefused bytes why
     → IsOpenRefusal told file before now (refusal_status why)
 refused_as told file bytes before now refused.NoMemory is e = tt
 refused_as told file bytes before now (refused.Props x) is (inl e) = absurd cc

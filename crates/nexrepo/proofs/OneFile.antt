@@ -15,9 +15,9 @@ use Rattle.tree_content.proofs.Names.{in_content}
 use Rattle.repo_core.specs.Fresh.{HasNoBlob}
 use Rattle.nexrepo.specs.Statuses.{config_file}
 
-slash_inside : (front rest : List ℕ) → list_any (λ b. b == 47) (front ++ 47 ∷ rest) ≡ true
+slash_inside : (prefix rest : List ℕ) → list_any (λ b. b == 47) (prefix ++ 47 ∷ rest) ≡ true
 slash_inside [] rest = refl
-slash_inside (b ∷ front) rest = elim (b == 47) as (λ t. (t || list_any (λ b. b == 47) (front ++ 47 ∷ rest)) ≡ true) [ true ↦ refl | false ↦ slash_inside front rest ]
+slash_inside (b ∷ prefix) rest = elim (b == 47) as (λ t. (t || list_any (λ b. b == 47) (prefix ++ 47 ∷ rest)) ≡ true) [ true ↦ refl | false ↦ slash_inside prefix rest ]
 
 -- the configuration's file is no blob's
 other_name : (blob : BlobRef) → IsRef blob → props_name blob ≢ config_file

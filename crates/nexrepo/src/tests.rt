@@ -24,7 +24,7 @@ use std::test::Fail;
 
 /// The milliseconds of an ordinary moment.
 const NOW: u64 = 1_700_000_000_000;
-/// The milliseconds of the last moment that has a stamp.
+/// The milliseconds of the last moment that has a timestamp.
 const LAST: u64 = 281_474_976_710_655;
 
 /// The devices of a run: the text of the configuration, how the input is cut, the room for the output, and which calls of
@@ -225,7 +225,7 @@ fn the_whole_profile(rt: HostRuntime) -> Result<(), Fail> {
 }
 
 #[test]
-fn stamps_are_used_once(rt: HostRuntime) -> Result<(), Fail> {
+fn timestamps_are_used_once(rt: HostRuntime) -> Result<(), Fail> {
     let input: &[&str] = &[PUT_ABC, PUT_ABC, GET_ABC];
     let want: (&str, &[&str]) = ("Ok", &[CREATED, STAMPS_USED, FOUND_ABC]);
     for now in [LAST, LAST + 1] {
@@ -235,8 +235,8 @@ fn stamps_are_used_once(rt: HostRuntime) -> Result<(), Fail> {
     Ok(())
 }
 
-/// Whether a run ended so, or as the usual one, with a front of what that wrote.
-fn ends_in_front(worked: &Worked, name: &str, usual: &Worked) -> bool {
+/// Whether a run ended so, or as the usual one, with a prefix of what that wrote.
+fn ends_in_prefix(worked: &Worked, name: &str, usual: &Worked) -> bool {
     let same = worked.ran.status.number() == 0 && worked.written == usual.written;
     (same || worked.ran.status.name() == name) && usual.written.starts_with(&worked.written)
 }
@@ -264,7 +264,7 @@ fn failing_devices(rt: HostRuntime) -> Result<(), Fail> {
             ..usual()
         };
         let worked = session(alloc, &setup, &input)?;
-        assert!(rt; ends_in_front(&worked, "ReadFault", &whole), "read {call}");
+        assert!(rt; ends_in_prefix(&worked, "ReadFault", &whole), "read {call}");
         assert!(rt; call > 0 || worked.written.is_empty(), "read {call}");
         let setup = Setup {
             failing_writes: &[call],
@@ -272,7 +272,7 @@ fn failing_devices(rt: HostRuntime) -> Result<(), Fail> {
         };
         let worked = session(alloc, &setup, &input)?;
         assert!(rt;
-            ends_in_front(&worked, "WriteFault", &whole),
+            ends_in_prefix(&worked, "WriteFault", &whole),
             "write {call}"
         );
         assert!(rt; call > 0 || worked.written.is_empty(), "write {call}");

@@ -21,16 +21,16 @@ both false b h = absurd (true≢false (sym h))
 and : (a b : Bool) → a ≡ true → b ≡ true → (a && b) ≡ true
 and a b ha hb = rw (ha, hb) refl
 
-pub each-holds : (age usage : Option ℕ) (pattern : Option (List ℕ)) (stamp used now : ℕ) (is_hit : List ℕ → Bool)
-    → (((given age true (λ d. has_passed d stamp now)) && (given usage true (λ d. has_passed d used now)) && (given pattern true is_hit)) ≡ true)
-    ↔ (IfSome age (λ d. d * day ≤ now - stamp) × IfSome usage (λ d. d * day ≤ now - used) × IfSome pattern (λ p. is_hit p ≡ true))
-each-holds age usage pattern stamp used now is_hit =
-    let a = given age true (λ d. has_passed d stamp now) in
+pub each-holds : (age usage : Option ℕ) (pattern : Option (List ℕ)) (timestamp used now : ℕ) (is_hit : List ℕ → Bool)
+    → (((given age true (λ d. has_passed d timestamp now)) && (given usage true (λ d. has_passed d used now)) && (given pattern true is_hit)) ≡ true)
+    ↔ (IfSome age (λ d. d * day ≤ now - timestamp) × IfSome usage (λ d. d * day ≤ now - used) × IfSome pattern (λ p. is_hit p ≡ true))
+each-holds age usage pattern timestamp used now is_hit =
+    let a = given age true (λ d. has_passed d timestamp now) in
     let u = given usage true (λ d. has_passed d used now) in
     let p = given pattern true is_hit in (
       λ h.
           let first = both (a && u) p h in
-          let front = both a u first.0 in
-          ((days_hold age stamp now).0 front.0, (days_hold usage used now).0 front.1, (pattern_holds is_hit pattern).0 first.1),
-      λ h. and (a && u) p (and a u ((days_hold age stamp now).1 h.0) ((days_hold usage used now).1 h.1)) ((pattern_holds is_hit pattern).1 h.2),
+          let prefix = both a u first.0 in
+          ((days_hold age timestamp now).0 prefix.0, (days_hold usage used now).0 prefix.1, (pattern_holds is_hit pattern).0 first.1),
+      λ h. and (a && u) p (and a u ((days_hold age timestamp now).1 h.0) ((days_hold usage used now).1 h.1)) ((pattern_holds is_hit pattern).1 h.2),
     )

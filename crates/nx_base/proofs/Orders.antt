@@ -22,5 +22,5 @@ place_cmp x y = ordering_then (name_cmp x.0 y.0) (name_cmp x.1 y.1)
 -- blobs that compare alike are one
 pub exact_blobs : CmpEqualImpliesEq age_cmp
 exact_blobs a b h =
-    ap (λ (p : ℕ × (List ℕ × List ℕ)). record { store = p.1.0; id = p.1.1; stamp = p.0 })
-    (exact_pairs nat_cmp place_cmp exact_unsigned (exact_pairs name_cmp name_cmp exact_bytes exact_bytes) (a.stamp, (a.store, a.id)) (b.stamp, (b.store, b.id)) h)
+    ap (λ (p : ℕ × (List ℕ × List ℕ)). record { store = p.1.0; id = p.1.1; timestamp = p.0 })
+    (exact_pairs nat_cmp place_cmp exact_unsigned (exact_pairs name_cmp name_cmp exact_bytes exact_bytes) (a.timestamp, (a.store, a.id)) (b.timestamp, (b.store, b.id)) h)

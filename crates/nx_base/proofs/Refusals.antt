@@ -12,12 +12,12 @@ Gives-Err wanted n (BadByte at) is about = is
 Gives-Err wanted n (BadSegment at) is about = is
 Gives-Err wanted n NoMemory is about = absurd about
 
-behind-Err : (front : ℕ) (part : Result (List ℕ) NameErr) (n : ℕ) (e : NameErr) → part ≡ Err e → SpeaksOf n e → Gives (behind front part) (Err (refusal_behind front e))
-behind-Err front part n Empty is about = ap (behind front) is
-behind-Err front part n (TooLong length) is about = ap (behind front) is
-behind-Err front part n (BadByte at) is about = ap (behind front) is
-behind-Err front part n (BadSegment at) is about = ap (behind front) is
-behind-Err front part n NoMemory is about = absurd about
+behind-Err : (prefix : ℕ) (part : Result (List ℕ) NameErr) (n : ℕ) (e : NameErr) → part ≡ Err e → SpeaksOf n e → Gives (behind prefix part) (Err (refusal_behind prefix e))
+behind-Err prefix part n Empty is about = ap (behind prefix) is
+behind-Err prefix part n (TooLong length) is about = ap (behind prefix) is
+behind-Err prefix part n (BadByte at) is about = ap (behind prefix) is
+behind-Err prefix part n (BadSegment at) is about = ap (behind prefix) is
+behind-Err prefix part n NoMemory is about = absurd about
 
-pub Gives-behind : (front : ℕ) (part : Result (List ℕ) NameErr) (n : ℕ) (e told : NameErr) → told ≡ refusal_behind front e → part ≡ Err e → SpeaksOf n e → Gives (behind front part) (Err told)
-Gives-behind front part n e told same is about = rw same (behind-Err front part n e is about)
+pub Gives-behind : (prefix : ℕ) (part : Result (List ℕ) NameErr) (n : ℕ) (e told : NameErr) → told ≡ refusal_behind prefix e → part ≡ Err e → SpeaksOf n e → Gives (behind prefix part) (Err told)
+Gives-behind prefix part n e told same is about = rw same (behind-Err prefix part n e is about)

@@ -23,7 +23,7 @@ has_passed days since now = nat_le (days * day) (now - since)
 
 -- when the content was last asked for, or else made
 abbrev pub last_used : Asset → ℕ
-last_used asset = unwrap_or asset.downloaded asset.blob.stamp
+last_used asset = unwrap_or asset.downloaded asset.blob.timestamp
 
 -- the pattern that holds of a text where the given one holds of the whole of it
 abbrev pub whole_pattern : List ℕ → List ℕ
@@ -37,6 +37,6 @@ is_hit pattern text =
 -- whether each criterion that is set holds of the row at that time
 abbrev pub matches : Criteria → Key → Asset → ℕ → Bool
 matches criteria key asset now =
-    given criteria.age true (λ days. has_passed days asset.blob.stamp now)
+    given criteria.age true (λ days. has_passed days asset.blob.timestamp now)
     && given criteria.usage true (λ days. has_passed days (last_used asset) now)
     && given criteria.path true (λ pattern. is_hit pattern key.path)

@@ -4,10 +4,10 @@ use Rattle.uuid.specs.Text.{hyphenated_text, lower, is_hyphen_place}
 use Rattle.nx_base.specs.declared.name_err.NameErr.{NameErr}
 use Rattle.nx_base.specs.declared.name_err.NameErr.TheVariants.{Empty, TooLong, BadByte}
 
--- the id made from a stamp below 2 ^ 48, most significant byte first, and ten random bytes
+-- the id made from a timestamp below 2 ^ 48, most significant byte first, and ten random bytes
 abbrev pub id_made : ℕ → List ℕ → List ℕ
-id_made stamp random =
-    (stamp / 2 ^ 40 % 256) ∷ (stamp / 2 ^ 32 % 256) ∷ (stamp / 2 ^ 24 % 256) ∷ (stamp / 2 ^ 16 % 256) ∷ (stamp / 2 ^ 8 % 256) ∷ (stamp % 256)
+id_made timestamp random =
+    (timestamp / 2 ^ 40 % 256) ∷ (timestamp / 2 ^ 32 % 256) ∷ (timestamp / 2 ^ 24 % 256) ∷ (timestamp / 2 ^ 16 % 256) ∷ (timestamp / 2 ^ 8 % 256) ∷ (timestamp % 256)
     ∷ (0x70 + slice_index random 0 % 16) ∷ slice_index random 1
     ∷ (0x80 + slice_index random 2 % 64) ∷ slice_index random 3
     ∷ slice_index random 4 ∷ slice_index random 5 ∷ slice_index random 6 ∷ slice_index random 7 ∷ slice_index random 8 ∷ slice_index random 9 ∷ []

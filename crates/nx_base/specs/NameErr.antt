@@ -14,11 +14,11 @@ Gives wanted (Err NoMemory) = IsOk wanted
 
 -- a refusal of what stands behind that many bytes, with its place in the whole
 abbrev pub refusal_behind : ℕ → NameErr → NameErr
-refusal_behind front Empty = Empty
-refusal_behind front (TooLong length) = TooLong length
-refusal_behind front (BadByte at) = BadByte (front + at)
-refusal_behind front (BadSegment at) = BadSegment (front + at)
-refusal_behind front NoMemory = NoMemory
+refusal_behind prefix Empty = Empty
+refusal_behind prefix (TooLong length) = TooLong length
+refusal_behind prefix (BadByte at) = BadByte (prefix + at)
+refusal_behind prefix (BadSegment at) = BadSegment (prefix + at)
+refusal_behind prefix NoMemory = NoMemory
 
 -- the refusal speaks of a text of that length: a place that it names is within the text
 abbrev pub SpeaksOf : ℕ → NameErr → Type 0

@@ -9,6 +9,6 @@ use Rattle.nx_base.specs.declared.blob_ref.BlobRef.{BlobRef}
 abbrev pub key_cmp : Key → Key → Ordering
 key_cmp a b = ordering_then (name_cmp a.repo b.repo) (name_cmp a.path b.path)
 
--- blobs from the oldest: by stamp, then by store, then by id. The order of ids as texts is that of their bytes.
+-- blobs from the oldest: by timestamp, then by store, then by id. The order of ids as texts is that of their bytes.
 abbrev pub age_cmp : BlobRef → BlobRef → Ordering
-age_cmp a b = ordering_then (nat_cmp a.stamp b.stamp) (ordering_then (name_cmp a.store b.store) (name_cmp a.id b.id))
+age_cmp a b = ordering_then (nat_cmp a.timestamp b.timestamp) (ordering_then (name_cmp a.store b.store) (name_cmp a.id b.id))

@@ -12,5 +12,5 @@ key_cmp_total = then_total (on_total (λ (k : Key). k.repo) nat_list_cmp_total) 
 
 pub age_cmp_total : IsTotalOrder age_cmp
 age_cmp_total =
-    then_total (on_total (λ (b : BlobRef). b.stamp) nat_cmp_total)
+    then_total (on_total (λ (b : BlobRef). b.timestamp) nat_cmp_total)
     (then_total (on_total (λ (b : BlobRef). b.store) nat_list_cmp_total) (on_total (λ (b : BlobRef). b.id) nat_list_cmp_total))

@@ -57,8 +57,8 @@ after_slash (b ∷ text) = if b == 47 then text else b ∷ text
 
 -- the answer for what stands behind that many bytes, with its place in the whole
 abbrev pub behind : ℕ → Result (List ℕ) NameErr → Result (List ℕ) NameErr
-behind front (Ok text) = Ok text
-behind front (Err e) = Err (refusal_behind front e)
+behind prefix (Ok text) = Ok text
+behind prefix (Err e) = Err (refusal_behind prefix e)
 
 -- the path of an asset that a text gives, or why it gives none
 abbrev pub path_of : List ℕ → Result (List ℕ) NameErr

@@ -40,15 +40,15 @@ fn after_slash(text: &[u8]) -> &[u8]
     }
 }
 
-// The refusal of what stands behind `front` bytes of a text, with its place in the text.
-fn behind(front: usize, length: usize, refusal: NameErr) -> NameErr
+// The refusal of what stands behind `prefix` bytes of a text, with its place in the text.
+fn behind(prefix: usize, length: usize, refusal: NameErr) -> NameErr
     requires within { SpeaksOf length refusal }
-    requires fits { front + length < 2 ^ 64 }
-    ensures { result ≡ refusal_behind front refusal }
+    requires fits { prefix + length < 2 ^ 64 }
+    ensures { result ≡ refusal_behind prefix refusal }
 {
     match refusal {
-        NameErr::BadByte { at } => NameErr::BadByte { at: front + at },
-        NameErr::BadSegment { at } => NameErr::BadSegment { at: front + at },
+        NameErr::BadByte { at } => NameErr::BadByte { at: prefix + at },
+        NameErr::BadSegment { at } => NameErr::BadSegment { at: prefix + at },
         NameErr::Empty => NameErr::Empty,
         NameErr::TooLong { length } => NameErr::TooLong { length },
         NameErr::NoMemory => NameErr::NoMemory,

@@ -48,12 +48,12 @@ fn compare_ids(a: &[u8], b: &[u8]) -> Ordering
 }
 
 impl BlobId {
-    /// The id of version 7 (RFC 9562, section 5.7) of a stamp in milliseconds and ten random bytes.
-    pub fn made(stamp: u64, random: &[u8; 10]) -> BlobId
-        requires { stamp < 2 ^ 48 }
-        ensures { result ≡ id_made stamp random.now }
+    /// The id of version 7 (RFC 9562, section 5.7) of a timestamp in milliseconds and ten random bytes.
+    pub fn made(timestamp: u64, random: &[u8; 10]) -> BlobId
+        requires { timestamp < 2 ^ 48 }
+        ensures { result ≡ id_made timestamp random.now }
     {
-        let uuid = Builder::from_unix_timestamp_millis(stamp, random).into_uuid();
+        let uuid = Builder::from_unix_timestamp_millis(timestamp, random).into_uuid();
         BlobId {
             bytes: *uuid.as_bytes(),
         }

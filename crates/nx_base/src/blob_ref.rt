@@ -7,26 +7,26 @@ use crate::text::compare_texts;
 use std::alloc::Global;
 use std::cmp::Ordering;
 
-/// A blob: its store, its id and its stamp.
+/// A blob: its store, its id and its timestamp.
 #[derive(Debug, Drop)]
 pub struct BlobRef {
     pub store: StoreName,
     pub id: BlobId,
     /// The time in milliseconds at which it was made, or later if blobs came faster.
-    pub stamp: u64,
+    pub timestamp: u64,
 }
 
 impl BlobRef {
     ghost use Rattle.nx_base.specs.Order.{age_cmp};
 
-    /// The order of blobs from the oldest: by stamp, then by store, then by id.
+    /// The order of blobs from the oldest: by timestamp, then by store, then by id.
     pub fn compare_age(&self, other: &BlobRef) -> Ordering
         ensures { result ≡ age_cmp self.now other.now }
     {
-        if self.stamp < other.stamp {
+        if self.timestamp < other.timestamp {
             return Ordering::Less;
         }
-        if other.stamp < self.stamp {
+        if other.timestamp < self.timestamp {
             return Ordering::Greater;
         }
         match compare_texts(self.store.as_bytes(), other.store.as_bytes()) {
@@ -42,7 +42,7 @@ impl BlobRef {
         Ok(BlobRef {
             store,
             id: self.id,
-            stamp: self.stamp,
+            timestamp: self.timestamp,
         })
     }
 }

@@ -26,7 +26,7 @@ pub fn blobs_are_ordered()
 pub fn each_criterion_counts()
     ensures { (criteria : Criteria) (key : Key) (asset : Asset) (now : ℕ) →
         IsTrue (matches criteria key asset now) ↔
-        (IfSome criteria.age (λ days. days * day ≤ now - asset.blob.stamp)
+        (IfSome criteria.age (λ days. days * day ≤ now - asset.blob.timestamp)
         × IfSome criteria.usage (λ days. days * day ≤ now - last_used asset)
         × IfSome criteria.path (λ pattern. IsTrue (is_hit pattern key.path))) }
 {}

@@ -2,7 +2,7 @@
 //!
 //! - A *key* is the name of a repository and the path of an asset in it. Keys are ordered by
 //!   repository and then by path, byte by byte.
-//! - A *blob* is named by its store, its id and its stamp. Blobs are ordered by stamp, then by
+//! - A *blob* is named by its store, its id and its timestamp. Blobs are ordered by timestamp, then by
 //!   store, then by id; the greatest is the newest.
 //! - A *row* says which blob is the content of a key.
 //!

@@ -325,8 +325,8 @@ impl Ord for BlobRef {
     ghost matches_eq = { λ x y. refl };
 
     fn cmp(&self, other: &BlobRef) -> Ordering {
-        self.stamp
-            .cmp(&other.stamp)
+        self.timestamp
+            .cmp(&other.timestamp)
             .then(self.store.cmp(&other.store))
             .then(self.id.as_bytes().cmp(other.id.as_bytes()))
     }

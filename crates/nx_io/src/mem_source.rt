@@ -77,7 +77,7 @@ impl Source for MemSource {
             self.faults = self.faults.saturating_add(1);
             return Err(Failed);
         }
-        let count = copy_front(&self.bytes[self.at..], self.piece, buf);
+        let count = copy_prefix(&self.bytes[self.at..], self.piece, buf);
         self.at += count;
         if !buf.is_empty() {
             self.ended = count == 0;
@@ -87,9 +87,9 @@ impl Source for MemSource {
 }
 
 /// Copies the first bytes of `from`, at most `most` and as many as fit, to the front of `to`.
-fn copy_front(from: &[u8], most: usize, to: &mut [u8]) -> usize
+fn copy_prefix(from: &[u8], most: usize, to: &mut [u8]) -> usize
     ensures count { result ≡ min (min most (length to.old)) (length from.now) }
-    ensures front { take result to.new ≡ take result from.now }
+    ensures prefix { take result to.new ≡ take result from.now }
 {
     let count = most.min(to.len()).min(from.len());
     to[..count].copy_from_slice(&from[..count]);

@@ -41,7 +41,7 @@ AllSound = (bytes : List ℕ) (settings : Settings) → Configures bytes setting
 
 -- a key that is made of a subject, a name and a word is taken apart into these
 pub record IsParted (subject : Subject) (name : List ℕ) (word : Word) : Type 0 where
-  pub front : subject_of (key_text subject name word) ≡ Some subject
+  pub prefix : subject_of (key_text subject name word) ≡ Some subject
   pub middle : middle_of (key_text subject name word) ≡ name
   pub last : tail_of (key_text subject name word) ≡ text word
 

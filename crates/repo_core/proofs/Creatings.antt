@@ -62,7 +62,7 @@ other_spot_test a b apart = elim (two (eq_by_cmp spot_cmp (spot_of a) (spot_of b
 ]
 
 module _ (config : Config) (tree mid : Tree) (s : State) (a : FilesAgree config tree s) (key : Key) (asset : Asset) (props : Props) (m : Makes config tree mid key asset.blob props)
-    (says : content_in asset ≡ content_of asset.blob props) (later : s.last < asset.blob.stamp) where
+    (says : content_in asset ≡ content_of asset.blob props) (later : s.last < asset.blob.timestamp) where
   abbrev blob : BlobRef
   blob = asset.blob
 
@@ -138,9 +138,9 @@ module _ (config : Config) (tree mid : Tree) (s : State) (a : FilesAgree config 
         ∙ (a.taken_is b is).1 (ap (λ (o : Option (List ℕ)). is_some o) (sym (apart_name tree mid blob ref m.rest b is other)) ∙ t)
   ]
 
-  pub last_after : (b : BlobRef) (q : Props) → Reads mid b q → b.stamp ≤ blob.stamp
+  pub last_after : (b : BlobRef) (q : Props) → Reads mid b q → b.timestamp ≤ blob.timestamp
   last_after b q r = elim (either b q r) [
-    | inl here ↦ subst (λ (x : BlobRef). x.stamp ≤ blob.stamp) (sym here.0) (omega arith)
+    | inl here ↦ subst (λ (x : BlobRef). x.timestamp ≤ blob.timestamp) (sym here.0) (omega arith)
     | inr before ↦ let le = a.last_is b q before.1 in omega (arith, le, later)
   ]
 
@@ -173,7 +173,7 @@ module _ (config : Config) (tree mid : Tree) (s : State) (a : FilesAgree config 
     ]
 
     pub files_created : (trash : map.FinMap age_cmp Deletion) → trash ≡ s.trash
-        → FilesAgree config mid (record s { rows = rows; trash = trash; last = blob.stamp; taken = set.insert s.taken (spot_of blob) })
+        → FilesAgree config mid (record s { rows = rows; trash = trash; last = blob.timestamp; taken = set.insert s.taken (spot_of blob) })
     files_created trash trash_is = record {
       names = names_ext (homes_of config) (with_content key (Some (content_of blob props)) (contents_in s.rows)) (contents_in rows) mid in_contents
           (first_names (homes_of config) (contents_in s.rows) tree mid key blob props a.names (ap (option_map content_in) none) m.rest was m.live);
@@ -295,7 +295,7 @@ module _ (config : Config) (tree mid : Tree) (s : State) (a : FilesAgree config 
     dead = marked_is_not_live (homes_of config) new old.blob old_now.text old_now.stands (with_mark olds reason at, old_now.says, refl)
 
     pub files_replaced : (trash : map.FinMap age_cmp Deletion) → trash ≡ map.insert s.trash old.blob deletion
-        → FilesAgree config new (record s { rows = rows; trash = trash; last = blob.stamp; taken = set.insert s.taken (spot_of blob) })
+        → FilesAgree config new (record s { rows = rows; trash = trash; last = blob.timestamp; taken = set.insert s.taken (spot_of blob) })
     files_replaced trash trash_is = record {
       names = names_ext (homes_of config) (with_content key (Some (content_of blob props)) (contents_in s.rows)) (contents_in rows) new in_contents
           (replaced_names (homes_of config) (contents_in s.rows) blob tree mid new key (content_in old) props a.names has m.rest was m.live rest dead);

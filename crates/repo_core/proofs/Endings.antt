@@ -12,7 +12,7 @@ use Rattle.repo_model.specs.declared.upload.Upload.{Upload}
 use Rattle.repo_model.specs.declared.reply.Reply.TheVariants as reply
 use Rattle.repo_model.specs.Config.{Config}
 use Rattle.repo_model.specs.State.{State, row_of}
-use Rattle.repo_model.specs.Stamps.{time_of, next_stamp}
+use Rattle.repo_model.specs.Timestamps.{time_of, next_timestamp}
 use Rattle.repo_model.specs.Outcome.{answered}
 use Rattle.repo_model.specs.Storing.{with_asset, new_asset}
 use Rattle.repo_model.specs.Deleting.{discarded}
@@ -33,7 +33,7 @@ use Rattle.repo_core.specs.Marks.{IsMarkOf}
 use Rattle.repo_core.specs.Puts.{put_call, next_ref, props_of, MayGo, AreBytes, IsPrepared}
 use Rattle.repo_core.specs.Standing.{BeforeOrAfter}
 use Rattle.repo_core.proofs.Creatings.{Makes, files_created, files_replaced}
-use Rattle.repo_core.proofs.Puttings.{later_stamp}
+use Rattle.repo_core.proofs.Puttings.{later_timestamp}
 use Rattle.repo_core.proofs.Givings.{its_props}
 use Rattle.repo_core.proofs.Replacings.{makes, no_old, its_old, no_trash, crash_created, image_replaced}
 
@@ -47,7 +47,7 @@ module _ {S : Type 0} (content : S → List ℕ) (config : Config) (tree : Tree)
   key = upload.key
 
   abbrev pub new_one : Asset
-  new_one = new_asset upload blob (next_stamp s.last moment.now)
+  new_one = new_asset upload blob (next_timestamp s.last moment.now)
 
   abbrev at : ℕ
   at = time_of moment.now
@@ -55,8 +55,8 @@ module _ {S : Type 0} (content : S → List ℕ) (config : Config) (tree : Tree)
   abbrev after : State
   after = with_asset s key new_one at
 
-  later : s.last < blob.stamp
-  later = later_stamp s.last moment.now
+  later : s.last < blob.timestamp
+  later = later_timestamp s.last moment.now
 
   put_outcome : outcome config s store (put_call upload moment) ≡ answered after (reply.Stored staged.new.asset)
   put_outcome = p.step ∙ ap (λ (x : Asset). answered after (reply.Stored x)) (sym p.new.asset_is)
@@ -71,31 +71,31 @@ module _ {S : Type 0} (content : S → List ℕ) (config : Config) (tree : Tree)
 
   module _ (before mid : Tree) (same : Same tree before) (its_bytes : mid (bytes_at staged.new.files.place) ≡ Some bytes) (its_text : mid (props_at staged.new.files.place) ≡ Some staged.new.text.items)
       (rest : RestOfPlace staged.new.files.place before mid) where
-    made : Makes config tree mid key blob (props_of upload blob.stamp)
+    made : Makes config tree mid key blob (props_of upload blob.timestamp)
     made = makes config upload store blob refl may staged.new p.new bytes are tree before mid p.free same its_bytes its_text rest
 
     agrees : (now : Tree) (rows_now : map.FinMap key_cmp Asset) → rows_now ≡ map.insert rows key new_one → FilesAgree config now after
-        → kept.trash ≡ after.trash → kept.notes ≡ own.notes → kept.counts ≡ own.counts → Agrees config now rows_now (record kept { last = staged.new.asset.blob.stamp }) after
+        → kept.trash ≡ after.trash → kept.notes ≡ own.notes → kept.counts ≡ own.counts → Agrees config now rows_now (record kept { last = staged.new.asset.blob.timestamp }) after
     agrees now rows_now rows_are files trash notes counts = record {
       sound = a.sound;
       files = files;
       rows_are = rows_are ∙ ap (λ (r : map.FinMap key_cmp Asset). map.insert r key new_one) a.rows_are;
       trash_are = trash;
       notes_are = notes ∙ a.notes_are;
-      last_are = ap (λ (x : Asset). x.blob.stamp) p.new.asset_is;
+      last_are = ap (λ (x : Asset). x.blob.timestamp) p.new.asset_is;
       counts_are = counts ∙ a.counts_are;
     }
 
     -- the first content of its key
     pub put_first : (rows_now : map.FinMap key_cmp Asset) → rows_now ≡ map.insert rows key new_one → staged.mark ≡ None
-        → (new : State) × (outcome config s store (put_call upload moment) ≡ answered new (reply.Stored staged.new.asset)) × Agrees config mid rows_now (record kept { last = staged.new.asset.blob.stamp }) new
+        → (new : State) × (outcome config s store (put_call upload moment) ≡ answered new (reply.Stored staged.new.asset)) × Agrees config mid rows_now (record kept { last = staged.new.asset.blob.timestamp }) new
     put_first rows_now rows_are none =
         let row : row_of s key ≡ None = no_old content config tree s a.files key p.old at staged.mark p.row p.mark none in
         let trash : after.trash ≡ s.trash = ap (λ (o : Option Asset). given o s.trash (λ old. discarded s.trash key old at)) row in
         let own_is = no_trash own kept key at p.old staged.mark none p.trash in (
           after,
           put_outcome,
-          agrees mid rows_now rows_are (files_created config tree mid s a.files key new_one (props_of upload blob.stamp) made refl later row after.trash trash)
+          agrees mid rows_now rows_are (files_created config tree mid s a.files key new_one (props_of upload blob.timestamp) made refl later row after.trash trash)
               (ap (λ (o : Own). o.trash) own_is ∙ a.trash_are ∙ sym trash) (ap (λ (o : Own). o.notes) own_is) (ap (λ (o : Own). o.counts) own_is),
         )
 
@@ -114,7 +114,7 @@ module _ {S : Type 0} (content : S → List ℕ) (config : Config) (tree : Tree)
 
       -- a content in place of another
       pub put_again : (now : Tree) (rows_now : map.FinMap key_cmp Asset) → rows_now ≡ map.insert rows key new_one → now (props_at mark.files.place) ≡ Some (content mark.file) → Rest (props_at mark.files.place) mid now
-          → (new : State) × (outcome config s store (put_call upload moment) ≡ answered new (reply.Stored staged.new.asset)) × Agrees config now rows_now (record kept { last = staged.new.asset.blob.stamp }) new
+          → (new : State) × (outcome config s store (put_call upload moment) ≡ answered new (reply.Stored staged.new.asset)) × Agrees config now rows_now (record kept { last = staged.new.asset.blob.timestamp }) new
       put_again now rows_now rows_are named others =
           let trash : after.trash ≡ discarded s.trash key old.0 at = ap (λ (o : Option Asset). given o s.trash (λ x. discarded s.trash key x at)) old.1 in
           let marked : Reads now old.0.blob (with_mark old.2.props (codes "Replaced") at) = record {
@@ -122,13 +122,13 @@ module _ {S : Type 0} (content : S → List ℕ) (config : Config) (tree : Tree)
             text = text;
             stands = ap now (sym name_is) ∙ named ∙ ap (λ (t : List ℕ). Some t) old.2.content_is;
             says = old.2.says;
-            stamp_is = was.stamp_is;
+            timestamp_is = was.timestamp_is;
           } in
           let apart_rest : RestOfPlace (place_of old.0.blob) mid now = λ n out not_bytes not_props. others n out (λ e. not_props (e ∙ name_is)) in (
             after,
             put_outcome,
             agrees now rows_now rows_are
-                (files_replaced config tree mid s a.files key new_one (props_of upload blob.stamp) made refl later old.0 old.1 now (codes "Replaced") at old.2.props was marked apart_rest after.trash trash)
+                (files_replaced config tree mid s a.files key new_one (props_of upload blob.timestamp) made refl later old.0 old.1 now (codes "Replaced") at old.2.props was marked apart_rest after.trash trash)
                 (ap (λ (o : Own). o.trash) old.3 ∙ ap (λ (t : map.FinMap age_cmp Deletion). discarded t key old.0 at) a.trash_are ∙ sym trash) (ap (λ (o : Own). o.notes) old.3) (ap (λ (o : Own). o.counts) old.3),
           )
 

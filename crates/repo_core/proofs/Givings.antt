@@ -77,7 +77,7 @@ module _ (config : Config) (tree : Tree) (s : State) (a : FilesAgree config tree
         let r = w.1.intact.readable in
         let texts : r.text ≡ text = some_is r.text text (sym r.stands ∙ was) in
         let said : w.0 ≡ props = some_is w.0 props (sym r.says ∙ ap readable_of texts ∙ read) in (
-          record { named = r.named; text = text; stands = was; says = read; stamp_is = sym (ap (λ (p : Props). p.stamp) said) ∙ r.stamp_is },
+          record { named = r.named; text = text; stands = was; says = read; timestamp_is = sym (ap (λ (p : Props). p.timestamp) said) ∙ r.timestamp_is },
           sym (ap (λ (p : Props). p.key) said) ∙ w.1.of_key,
         )
 
@@ -146,7 +146,7 @@ module _ (config : Config) (tree : Tree) (s : State) (a : FilesAgree config tree
           text = text;
           stands = ap new (sym name_is) ∙ named ∙ ap (λ (t : List ℕ). Some t) staged.content_is;
           says = staged.says;
-          stamp_is = its.0.stamp_is;
+          timestamp_is = its.0.timestamp_is;
         };
         rest = λ n out not_bytes not_props. rest n out (λ e. not_props (e ∙ name_is)) ∙ same n out;
       }

@@ -6,7 +6,7 @@ use Rattle.nx_base.specs.declared.key.Key.{Key}
 use Rattle.nx_base.specs.declared.moment.Moment.{Moment}
 use Rattle.repo_model.specs.declared.upload.Upload.{Upload}
 use Rattle.repo_model.specs.Deleting.{discarded}
-use Rattle.repo_model.specs.Stamps.{next_stamp, time_of}
+use Rattle.repo_model.specs.Timestamps.{next_timestamp, time_of}
 use Rattle.repo_core.specs.declared.denial.Denial.{Denial}
 use Rattle.repo_core.specs.declared.marking.Mark.{Mark}
 use Rattle.repo_core.specs.declared.own.Own.{Own}
@@ -26,8 +26,8 @@ pub put_trashed : {S : Type 0} (own kept : Own) (key : Key) (moment : Moment) (a
 put_trashed own kept key moment at old (Ok staged) time is = trashed own kept key moment at old staged.mark time is
 put_trashed own kept key moment at old (Err why) time is = tt
 
--- the new blob has the next stamp
-pub put_stamped : {S : Type 0} (store : List ℕ) (last : ℕ) (moment : Moment) (upload : Upload) (blob : BlobRef) (done : Result (Staged S) Denial) → blob ≡ next_ref store last moment
-    → IfOk done (λ staged. IsNewBlob upload blob staged.new) → IfOk done (λ staged. staged.new.asset.blob.stamp ≡ next_stamp last moment.now)
-put_stamped store last moment upload blob (Ok staged) is new = ap (λ (x : Asset). x.blob.stamp) new.asset_is ∙ ap (λ (b : BlobRef). b.stamp) is
-put_stamped store last moment upload blob (Err why) is new = tt
+-- the new blob has the next timestamp
+pub put_timestamped : {S : Type 0} (store : List ℕ) (last : ℕ) (moment : Moment) (upload : Upload) (blob : BlobRef) (done : Result (Staged S) Denial) → blob ≡ next_ref store last moment
+    → IfOk done (λ staged. IsNewBlob upload blob staged.new) → IfOk done (λ staged. staged.new.asset.blob.timestamp ≡ next_timestamp last moment.now)
+put_timestamped store last moment upload blob (Ok staged) is new = ap (λ (x : Asset). x.blob.timestamp) new.asset_is ∙ ap (λ (b : BlobRef). b.timestamp) is
+put_timestamped store last moment upload blob (Err why) is new = tt

@@ -156,7 +156,7 @@ module _ (config : Config) (tree new : Tree) (s : State) (a : FilesAgree config 
       (λ t. (a.taken_is b ref).1 (sym e ∙ t)),
     );
     last_is = λ b q r. elim (reads_new tree new blob marks.was.named marks.rest (with_mark marks.props reason at) marks.now b q r) [
-      | inl here ↦ subst (λ (x : BlobRef). x.stamp ≤ s.last) (sym here.0) (a.last_is blob marks.props marks.was)
+      | inl here ↦ subst (λ (x : BlobRef). x.timestamp ≤ s.last) (sym here.0) (a.last_is blob marks.props marks.was)
       | inr before ↦ a.last_is b q before.1
     ];
   }

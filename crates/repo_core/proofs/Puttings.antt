@@ -11,7 +11,7 @@ use Rattle.repo_model.specs.declared.reply.Reply.TheVariants as reply
 use Rattle.repo_model.specs.Config.{Config}
 use Rattle.repo_model.specs.State.{State}
 use Rattle.repo_model.specs.Outcome.{answered, refused}
-use Rattle.repo_model.specs.Stamps.{greatest_time, next_stamp, time_of}
+use Rattle.repo_model.specs.Timestamps.{greatest_time, next_timestamp, time_of}
 use Rattle.repo_model.specs.Writing.{keeps_row}
 use Rattle.repo_model.specs.Storing.{stored, stored_as, is_taken, new_asset, with_asset}
 use Rattle.repo_model.specs.Step.{outcome, on_put, put_reply}
@@ -57,18 +57,18 @@ module _ (config : Config) (s : State) (store : List ℕ) (upload : Upload) (mom
 
   pub used_up : keeps_row may.repo s upload.key ≡ false → greatest_time ≤ s.last → DeniesAt config s store (put_call upload moment) denial.StampsUsed
   used_up is full = denies_at config s store (put_call upload moment) denial.StampsUsed
-      (open_to is ∙ ap (put_reply s) (ap (λ (b : Bool). if b then Err refusal.StampsUsed else stored_as s upload moment.now blob (next_stamp s.last moment.now)) (at_least greatest_time s.last full)))
+      (open_to is ∙ ap (put_reply s) (ap (λ (b : Bool). if b then Err refusal.StampsUsed else stored_as s upload moment.now blob (next_timestamp s.last moment.now)) (at_least greatest_time s.last full)))
 
-  stored_is : s.last < greatest_time → stored s store upload moment false ≡ stored_as s upload moment.now blob (next_stamp s.last moment.now)
-  stored_is room = ap (λ (b : Bool). if b then Err refusal.StampsUsed else stored_as s upload moment.now blob (next_stamp s.last moment.now)) (less greatest_time s.last room)
+  stored_is : s.last < greatest_time → stored s store upload moment false ≡ stored_as s upload moment.now blob (next_timestamp s.last moment.now)
+  stored_is room = ap (λ (b : Bool). if b then Err refusal.StampsUsed else stored_as s upload moment.now blob (next_timestamp s.last moment.now)) (less greatest_time s.last room)
 
   abbrev asset : Asset
-  asset = new_asset upload blob (next_stamp s.last moment.now)
+  asset = new_asset upload blob (next_timestamp s.last moment.now)
 
-  as_taken : is_taken s blob ≡ true → stored_as s upload moment.now blob (next_stamp s.last moment.now) ≡ Err (refusal.IdTaken blob.id)
+  as_taken : is_taken s blob ≡ true → stored_as s upload moment.now blob (next_timestamp s.last moment.now) ≡ Err (refusal.IdTaken blob.id)
   as_taken taken = ap (λ (b : Bool). if b then Err (refusal.IdTaken blob.id) else Ok (record { asset = asset; new = with_asset s upload.key asset (time_of moment.now) })) taken
 
-  as_free : is_taken s blob ≡ false → stored_as s upload moment.now blob (next_stamp s.last moment.now) ≡ Ok (record { asset = asset; new = with_asset s upload.key asset (time_of moment.now) })
+  as_free : is_taken s blob ≡ false → stored_as s upload moment.now blob (next_timestamp s.last moment.now) ≡ Ok (record { asset = asset; new = with_asset s upload.key asset (time_of moment.now) })
   as_free free = ap (λ (b : Bool). if b then Err (refusal.IdTaken blob.id) else Ok (record { asset = asset; new = with_asset s upload.key asset (time_of moment.now) })) free
 
   pub id_taken : keeps_row may.repo s upload.key ≡ false → s.last < greatest_time → is_taken s blob ≡ true → DeniesAt config s store (put_call upload moment) (denial.IdTaken blob.id)
@@ -99,8 +99,8 @@ module _ (config : Config) (s : State) (store : List ℕ) (upload : Upload) (mom
       | inr not ↦ not
     ]
 
-pub later_stamp : (last now : ℕ) → last < next_stamp last now
-later_stamp last now = grind arith
+pub later_timestamp : (last now : ℕ) → last < next_timestamp last now
+later_timestamp last now = grind arith
 
 -- what was staged makes the step ready, or is denied
 pub prepared : {S : Type 0} (content : S → List ℕ) (config : Config) (tree : Tree) (s : State) (store : List ℕ) (upload : Upload) (moment : Moment) (own kept : Own) (told : Type 0) (tells : told)

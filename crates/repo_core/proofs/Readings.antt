@@ -14,7 +14,7 @@ pub same_to_files : (a b : BlobRef) → a ≡ b → SameFiles a b
 same_to_files a b e = (ap (λ (r : BlobRef). r.store) e, ap (λ (r : BlobRef). r.id) e)
 
 pub reads_at : (tree new : Tree) (b : BlobRef) (q : Props) → new (props_name b) ≡ tree (props_name b) → Reads tree b q → Reads new b q
-reads_at tree new b q same r = record { named = r.named; text = r.text; stands = same ∙ r.stands; says = r.says; stamp_is = r.stamp_is }
+reads_at tree new b q same r = record { named = r.named; text = r.text; stands = same ∙ r.stands; says = r.says; timestamp_is = r.timestamp_is }
 
 pub of_rest : (blob : BlobRef) (tree new : Tree) → Rest (props_name blob) tree new → RestOfPlace (place_of blob) tree new
 of_rest blob tree new rest n out not_bytes not_props = rest n out not_props

@@ -31,7 +31,7 @@ use Rattle.blob_paths.specs.declared.ending.Ending.TheVariants.{Properties}
 use Rattle.tree_content.proofs.Names.{outside}
 use Rattle.repo_core.proofs.Maps.{set_at, set_beside}
 use Rattle.tree_content.proofs.Blobs.{some_is, none_or_some, same_or_other_key, absent_is_not_live}
-use Rattle.tree_content.proofs.Changes.{before_or_after, newest_stamp, gained_beside, one_content}
+use Rattle.tree_content.proofs.Changes.{before_or_after, newest_timestamp, gained_beside, one_content}
 use Rattle.tree_content.proofs.Images.{creating, marking_unnamed}
 use Rattle.tree_content.proofs.Naming.{other_files}
 use Rattle.repo_core.specs.declared.staging.NewBlob.{NewBlob}
@@ -76,7 +76,7 @@ home_of config upload store may =
 
 module _ (config : Config) (upload : Upload) (store : List ℕ) (blob : BlobRef) (in_store : blob.store ≡ store) (may : MayGo config upload.key store) (made : NewBlob) (new : IsNewBlob upload blob made) (bytes : List ℕ) (are : AreBytes upload bytes) where
   abbrev props : Props
-  props = props_of upload blob.stamp
+  props = props_of upload blob.timestamp
 
   -- the two files that were shown make the blob
   pub makes : (tree before mid : Tree) → tree (props_name blob) ≡ None → Same tree before → mid (bytes_at made.files.place) ≡ Some bytes → mid (props_at made.files.place) ≡ Some made.text.items
@@ -90,7 +90,7 @@ module _ (config : Config) (upload : Upload) (store : List ℕ) (blob : BlobRef)
           text = made.text.items;
           stands = ap (λ (p : List ℕ). mid (props_at p)) (sym new.place_is) ∙ its_props;
           says = new.says;
-          stamp_is = refl;
+          timestamp_is = refl;
         };
         bytes = bytes;
         there = ap (λ (p : List ℕ). mid (bytes_at p)) (sym new.place_is) ∙ its_bytes;
@@ -105,10 +105,10 @@ module _ (config : Config) (upload : Upload) (store : List ℕ) (blob : BlobRef)
         rest n out (λ e. not_bytes (e ∙ ap bytes_at new.place_is)) (λ e. not_props (e ∙ ap props_at new.place_is)) ∙ same n out;
   }
 
-module _ (config : Config) (tree : Tree) (s : State) (a : FilesAgree config tree s) (upload : Upload) (blob : BlobRef) (asset : Asset) (is_asset : asset ≡ new_asset upload blob blob.stamp) (later : s.last < blob.stamp)
+module _ (config : Config) (tree : Tree) (s : State) (a : FilesAgree config tree s) (upload : Upload) (blob : BlobRef) (asset : Asset) (is_asset : asset ≡ new_asset upload blob blob.timestamp) (later : s.last < blob.timestamp)
     (made : NewBlob) (new : IsNewBlob upload blob made) (free : tree (props_name blob) ≡ None) where
   abbrev pub its : Props
-  its = props_of upload blob.stamp
+  its = props_of upload blob.timestamp
 
   abbrev pub key : Key
   key = upload.key
@@ -147,7 +147,7 @@ module _ (config : Config) (tree : Tree) (s : State) (a : FilesAgree config tree
     pub new_contents : HasContents homes (contents_in rows) mid
     new_contents = contents_ext homes changed (contents_in rows) mid same_rows (λ k. elim (same_or_other_key k key) [
       | inl same ↦
-          let at_key = newest_stamp homes blob new.ref tree mid m.rest key its (absent_is_not_live homes tree blob m.free) m.live
+          let at_key = newest_timestamp homes blob new.ref tree mid m.rest key its (absent_is_not_live homes tree blob m.free) m.live
           (λ other d live. let le = a.last_is other d live.intact.readable in omega (arith, le, later)) in
           let value : changed k ≡ Some (content_of blob its) = sym (same_rows k) ∙ ap (option_map content_in) (set_at s.rows key asset k same) ∙ ap (λ (c : Content). Some c) says in
           subst (λ (c : Option Content). ContentOf homes mid k c) (sym value) (subst (λ (x : Key). ContentOf homes mid x (Some (content_of blob its))) (sym same) at_key)

@@ -13,7 +13,7 @@ use Rattle.repo_model.specs.declared.call.RemoteSaid.TheVariants as remote
 use Rattle.repo_model.specs.declared.reply.Reply.TheVariants as reply
 use Rattle.repo_model.specs.Config.{Config}
 use Rattle.repo_model.specs.State.{State, row_of}
-use Rattle.repo_model.specs.Stamps.{time_of}
+use Rattle.repo_model.specs.Timestamps.{time_of}
 use Rattle.repo_model.specs.Serving.{downloaded, served}
 use Rattle.repo_model.specs.Step.{outcome}
 use Rattle.tree_content.specs.Blobs.{bytes_name}

@@ -20,7 +20,7 @@ use Rattle.repo_model.specs.declared.reply.Fault.TheVariants as fault
 use Rattle.repo_model.specs.declared.reply.Refusal.{Refusal}
 use Rattle.repo_model.specs.declared.reply.Refusal.TheVariants as refusal
 use Rattle.repo_model.specs.Config.{Config, repo_of}
-use Rattle.repo_model.specs.Stamps.{greatest_time}
+use Rattle.repo_model.specs.Timestamps.{greatest_time}
 use Rattle.repo_core.specs.declared.denial.Denial.{Denial}
 use Rattle.repo_core.specs.declared.denial.Denial.TheVariants as denial
 use Rattle.repo_core.specs.declared.stop.Stop.{Stop}
@@ -116,9 +116,9 @@ module _ (config : Config) (last : ℕ) (key : Key) (moment : Moment) (found : B
   failed_put free below fault.Keeper = tt
   failed_put free below fault.Memory = tt
 
-  pub no_stamp : (store : List ℕ) (why : Denial) → ((keeps_rows config key && found) ≡ false) → IsNext store last moment (Err why) → WhyNotPut config last key moment found looked (refusal_for why)
-  no_stamp store why free (inl it) = subst (λ (w : Denial). WhyNotPut config last key moment found looked (refusal_for w)) (sym it.0) (free, it.1)
-  no_stamp store why free (inr is) = subst (λ (w : Denial). WhyNotPut config last key moment found looked (refusal_for w)) (sym is) tt
+  pub no_timestamp : (store : List ℕ) (why : Denial) → ((keeps_rows config key && found) ≡ false) → IsNext store last moment (Err why) → WhyNotPut config last key moment found looked (refusal_for why)
+  no_timestamp store why free (inl it) = subst (λ (w : Denial). WhyNotPut config last key moment found looked (refusal_for w)) (sym it.0) (free, it.1)
+  no_timestamp store why free (inr is) = subst (λ (w : Denial). WhyNotPut config last key moment found looked (refusal_for w)) (sym is) tt
 
   pub unstaged_put : (told : Type 0) (tree : Tree) (store : List ℕ) (blob : BlobRef) (why : Denial) → ((keeps_rows config key && found) ≡ false) → last < greatest_time → blob ≡ next_ref store last moment
       → ((id : List ℕ) → why ≡ denial.IdTaken id → IsSome looked) → NotPut told tree blob why → WhyNotPut config last key moment found looked (refusal_for why)

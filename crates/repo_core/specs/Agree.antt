@@ -36,13 +36,13 @@ pub record IsLoose (homes : Homes) (rows : map.FinMap key_cmp Asset) (tree : Tre
   pub unnamed : (asset : Asset) → map.get rows key ≡ Some asset → asset.blob ≢ blob
 
 -- The files are what the state says: its rows and the live blobs name each other; its trash has just the marked blobs; the
--- loose blobs, and the names that are taken, are those of the tree; and no blob has a later stamp than the last.
+-- loose blobs, and the names that are taken, are those of the tree; and no blob has a later timestamp than the last.
 pub record FilesAgree (config : Config) (tree : Tree) (state : State) : Type 0 where
   pub names : NamesEachLive (homes_of config) (contents_in state.rows) tree
   pub trash_is : (blob : BlobRef) (deletion : Deletion) → (map.get state.trash blob ≡ Some deletion) ↔ IsMarked tree blob deletion
   pub loose_is : (blob : BlobRef) (key : Key) → (map.get state.loose blob ≡ Some key) ↔ IsLoose (homes_of config) state.rows tree blob key
   pub taken_is : (blob : BlobRef) → IsRef blob → IsTrue (is_taken state blob) ↔ IsSome (tree (props_name blob))
-  pub last_is : (blob : BlobRef) (props : Props) → Reads tree blob props → blob.stamp ≤ state.last
+  pub last_is : (blob : BlobRef) (props : Props) → Reads tree blob props → blob.timestamp ≤ state.last
 
 -- Nothing is broken, the files agree, the table's rows are the state's, and so is what the core keeps itself.
 pub record Agrees (config : Config) (tree : Tree) (rows : map.FinMap key_cmp Asset) (own : Own) (state : State) : Type 0 where

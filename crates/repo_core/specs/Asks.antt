@@ -18,7 +18,7 @@ use Rattle.repo_model.specs.declared.reply.Reply.TheVariants as reply
 use Rattle.repo_model.specs.declared.transfer.GotOf.{GotOf}
 use Rattle.repo_model.specs.Config.{Config, Repo, repo_of, write_store}
 use Rattle.repo_model.specs.Deleting.{discarded}
-use Rattle.repo_model.specs.Stamps.{next_stamp, time_of}
+use Rattle.repo_model.specs.Timestamps.{next_timestamp, time_of}
 use Rattle.repo_model.specs.State.{State, row_of}
 use Rattle.disk_model.specs.Disk.{Tree}
 use Rattle.asset_keeper.specs.Table.{Table, changed}
@@ -127,10 +127,10 @@ Counts config key old new =
 abbrev pub Discards : Key → Moment → Own → Own → Type 0
 Discards key moment old new = (asset : Asset) × (new ≡ record old { trash = discarded old.trash key asset (time_of moment.now) })
 
--- the next stamp is the last one, and the blob that the key had, if it had one whose mark could be made, is in the trash
-abbrev pub Stamps : Key → Moment → Own → Own → Type 0
-Stamps key moment old new =
-    (kept : Own) × ((kept ≡ old) ⊎ Discards key moment old kept) × (new ≡ record kept { last = next_stamp old.last moment.now })
+-- the next timestamp is the last one, and the blob that the key had, if it had one whose mark could be made, is in the trash
+abbrev pub Timestamps : Key → Moment → Own → Own → Type 0
+Timestamps key moment old new =
+    (kept : Own) × ((kept ≡ old) ⊎ Discards key moment old kept) × (new ≡ record kept { last = next_timestamp old.last moment.now })
 
 -- the beginning of an upload
 abbrev pub begins : {D W : Type 0} → Config → ℕ → Begin → Ask D (Upload W)
@@ -148,5 +148,5 @@ looks_at caller key look moment = asks caller (call.Get key look moment remote.N
 -- of the file.
 abbrev pub puts : {D T S : Type 0} → Devices D T → (S → List ℕ) → Config → ℕ → Ready S → Moment → Ask D Asset
 puts on content config caller ready moment =
-    asks_to_store on caller (put_call (upload_of ready) moment) (λ asset. reply.Stored asset) (TouchesNew ready.store ready.begin.key moment) (SetsRow ready.begin.key) (Stamps ready.begin.key moment) ready.store
+    asks_to_store on caller (put_call (upload_of ready) moment) (λ asset. reply.Stored asset) (TouchesNew ready.store ready.begin.key moment) (SetsRow ready.begin.key) (Timestamps ready.begin.key moment) ready.store
     (MayGo config ready.begin.key ready.store × AreBytes (upload_of ready) (content ready.file))

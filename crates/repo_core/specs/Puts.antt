@@ -13,7 +13,7 @@ use Rattle.repo_model.specs.declared.reply.Reply.TheVariants as reply
 use Rattle.repo_model.specs.declared.reply.Fault.TheVariants as fault
 use Rattle.repo_model.specs.Config.{Config, Repo, repo_of, takes}
 use Rattle.repo_model.specs.State.{State, row_of}
-use Rattle.repo_model.specs.Stamps.{greatest_time, next_stamp, time_of}
+use Rattle.repo_model.specs.Timestamps.{greatest_time, next_timestamp, time_of}
 use Rattle.repo_model.specs.Writing.{keeps_row}
 use Rattle.repo_model.specs.Deleting.{discarded}
 use Rattle.repo_model.specs.Storing.{new_asset, with_asset}
@@ -43,22 +43,22 @@ use Rattle.repo_core.specs.Marks.{Stages}
 
 -- what the properties of a new blob say
 abbrev pub props_of : Upload → ℕ → Props
-props_of upload stamp =
-    record { key = upload.key; content_type = upload.content_type; size = upload.size; sha1 = upload.sha1; stamp = stamp; deleted = None; others = [] }
+props_of upload timestamp =
+    record { key = upload.key; content_type = upload.content_type; size = upload.size; sha1 = upload.sha1; timestamp = timestamp; deleted = None; others = [] }
 
--- the blob of an upload into a store, made at that moment after the last stamp
+-- the blob of an upload into a store, made at that moment after the last timestamp
 abbrev pub next_ref : List ℕ → ℕ → Moment → BlobRef
 next_ref store last moment =
-    let stamp = next_stamp last moment.now in
-    record { store = store; id = id_made stamp moment.random; stamp = stamp }
+    let timestamp = next_timestamp last moment.now in
+    record { store = store; id = id_made timestamp moment.random; timestamp = timestamp }
 
 -- The names are the blob's, the text says its properties, and the change sets the row of its asset.
 pub record IsNewBlob (upload : Upload) (blob : BlobRef) (made : NewBlob) : Type 0 where
   pub ref : IsRef blob
   pub place_is : made.files.place ≡ place_of blob
-  pub says : Readable made.text.items (props_of upload blob.stamp)
-  pub asset_is : made.asset ≡ new_asset upload blob blob.stamp
-  pub change_is : made.change ≡ change.Set (record { key = upload.key; asset = new_asset upload blob blob.stamp })
+  pub says : Readable made.text.items (props_of upload blob.timestamp)
+  pub asset_is : made.asset ≡ new_asset upload blob blob.timestamp
+  pub change_is : made.change ≡ change.Set (record { key = upload.key; asset = new_asset upload blob blob.timestamp })
 
 -- the names are those of the asset's blob
 pub record IsPlaced (made : NewBlob) : Type 0 where
@@ -76,9 +76,9 @@ MayReplace repo s key (Ok old) = (row_of s key ≡ old) × (keeps_row repo s key
 MayReplace repo s key (Err why) =
     ((why ≡ denial.WriteDenied NoRedeploy) × (keeps_row repo s key ≡ true)) ⊎ ((refusal : KeepErr) × (why ≡ denial.Failed (of_keeper refusal)))
 
--- the next blob, or there is no stamp or no memory for it
+-- the next blob, or there is no timestamp or no memory for it
 abbrev pub IsNext : List ℕ → ℕ → Moment → Result BlobRef Denial → Type 0
-IsNext store last moment (Ok blob) = (blob ≡ next_ref store last moment) × (last < greatest_time) × (blob.stamp < 2 ^ 48)
+IsNext store last moment (Ok blob) = (blob ≡ next_ref store last moment) × (last < greatest_time) × (blob.timestamp < 2 ^ 48)
 IsNext store last moment (Err why) = ((why ≡ denial.StampsUsed) × (greatest_time ≤ last)) ⊎ (why ≡ denial.Failed fault.Memory)
 
 -- what the core keeps, with the blob of the old row in the trash, if there is one whose mark is staged
@@ -113,8 +113,8 @@ pub record IsPrepared {S : Type 0} (content : S → List ℕ) (config : Config) 
   pub row : row_of s upload.key ≡ old
   pub new : IsNewBlob upload (next_ref store s.last moment) staged.new
   pub step : outcome config s store (put_call upload moment)
-      ≡ answered (with_asset s upload.key (new_asset upload (next_ref store s.last moment) (next_stamp s.last moment.now)) (time_of moment.now))
-      (reply.Stored (new_asset upload (next_ref store s.last moment) (next_stamp s.last moment.now)))
+      ≡ answered (with_asset s upload.key (new_asset upload (next_ref store s.last moment) (next_timestamp s.last moment.now)) (time_of moment.now))
+      (reply.Stored (new_asset upload (next_ref store s.last moment) (next_timestamp s.last moment.now)))
   pub free : tree (props_name (next_ref store s.last moment)) ≡ None
   pub mark : StagesOld content tree (time_of moment.now) old staged.mark
   pub trash : kept ≡ with_old own upload.key (time_of moment.now) old staged.mark

@@ -16,7 +16,7 @@ use Rattle.repo_model.specs.declared.call.Look.TheVariants as looks
 use Rattle.repo_model.specs.declared.reply.Refusal.{Refusal}
 use Rattle.repo_model.specs.declared.reply.Refusal.TheVariants as refusal
 use Rattle.repo_model.specs.Config.{Config, repo_of, group_of, write_store, is_no_redeploy}
-use Rattle.repo_model.specs.Stamps.{greatest_time, next_stamp}
+use Rattle.repo_model.specs.Timestamps.{greatest_time, next_timestamp}
 use Rattle.repo_model.specs.Writing.{bars_put, bars_delete}
 
 -- whether the key's repository is declared, and clients may delete of it, or may not
@@ -99,14 +99,14 @@ WhyNotBegun config counts key found (refusal.Broken cause) = Unit {0}
 WhyNotBegun config counts key found refusal.JournalFull = Unit {0}
 WhyNotBegun config counts key found refusal.NoMemory = (may_put config key ≡ true) × IsSome (store_of config counts key)
 
--- the put of an upload, behind the last stamp
+-- the put of an upload, behind the last timestamp
 abbrev pub WhyNotPut : Config → ℕ → Key → Moment → Bool → Option ℕ → Refusal → Type 0
 WhyNotPut config last key moment found looked refusal.NotFound = ⊥
 WhyNotPut config last key moment found looked refusal.UnknownRepo = ⊥
 WhyNotPut config last key moment found looked (refusal.WriteDenied policy) = (policy ≡ policies.NoRedeploy) × (keeps_rows config key ≡ true) × (found ≡ true)
 WhyNotPut config last key moment found looked refusal.NoWritable = ⊥
 WhyNotPut config last key moment found looked (refusal.IdTaken id) =
-    ((keeps_rows config key && found) ≡ false) × (last < greatest_time) × (id ≡ id_made (next_stamp last moment.now) moment.random) × IsSome looked
+    ((keeps_rows config key && found) ≡ false) × (last < greatest_time) × (id ≡ id_made (next_timestamp last moment.now) moment.random) × IsSome looked
 WhyNotPut config last key moment found looked refusal.StampsUsed = ((keeps_rows config key && found) ≡ false) × (greatest_time ≤ last)
 WhyNotPut config last key moment found looked refusal.RemoteFault = ⊥
 WhyNotPut config last key moment found looked (refusal.Damaged size length) = ⊥

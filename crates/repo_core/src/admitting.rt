@@ -22,7 +22,7 @@ use repo_model::Fault;
 use repo_model::plain::{PlainConfig, find_repo, time};
 use std::alloc::Global;
 
-/// The greatest stamp, in milliseconds since 1970.
+/// The greatest timestamp, in milliseconds since 1970.
 const GREATEST_STAMP: u64 = 0xffff_ffff_ffff;
 
 /// Whether what a key has may not be replaced.
@@ -67,7 +67,7 @@ pub(crate) fn row_to_replace<T: Keeper>(
     }
 }
 
-/// The blob of an upload into a store: the next one after the last stamp.
+/// The blob of an upload into a store: the next one after the last timestamp.
 pub(crate) fn next_blob(
     alloc: Global,
     store: &StoreName,
@@ -79,12 +79,12 @@ pub(crate) fn next_blob(
     if last >= GREATEST_STAMP {
         return Err(Denial::StampsUsed);
     }
-    let stamp = time(moment.now).max(last + 1);
+    let timestamp = time(moment.now).max(last + 1);
     match store.try_clone(alloc) {
         Ok(store) => Ok(BlobRef {
             store,
-            id: BlobId::made(stamp, &moment.random),
-            stamp,
+            id: BlobId::made(timestamp, &moment.random),
+            timestamp,
         }),
         Err(_) => Err(Denial::Failed(Fault::Memory)),
     }

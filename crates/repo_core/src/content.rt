@@ -10,10 +10,10 @@ use repo_model::Upload;
 use std::alloc::Global;
 
 /// The text of the properties of a new blob.
-pub(crate) fn new_text(alloc: Global, upload: &Upload, stamp: u64) -> Result<Vec<u8>, NoMemory>
+pub(crate) fn new_text(alloc: Global, upload: &Upload, timestamp: u64) -> Result<Vec<u8>, NoMemory>
     requires size { upload.now.size < 2 ^ 63 }
-    requires stamp { stamp < 2 ^ 48 }
-    ensures { IfOk result (λ text. Readable text.items (props_of upload.now stamp)) }
+    requires timestamp { timestamp < 2 ^ 48 }
+    ensures { IfOk result (λ text. Readable text.items (props_of upload.now timestamp)) }
 {
     let key = upload.key.try_clone(alloc)?;
     let content_type = upload.content_type.try_clone(alloc)?;
@@ -22,7 +22,7 @@ pub(crate) fn new_text(alloc: Global, upload: &Upload, stamp: u64) -> Result<Vec
         content_type,
         size: upload.size,
         sha1: upload.sha1,
-        stamp,
+        timestamp,
         deleted: None,
         others: Pairs::new(alloc),
     };
@@ -32,9 +32,9 @@ pub(crate) fn new_text(alloc: Global, upload: &Upload, stamp: u64) -> Result<Vec
     }
 }
 
-/// The asset of a new blob, which was verified at its stamp and never asked for.
+/// The asset of a new blob, which was verified at its timestamp and never asked for.
 pub(crate) fn new_asset(alloc: Global, upload: &Upload, blob: &BlobRef) -> Result<Asset, NoMemory>
-    ensures { IfOk result (λ asset. asset ≡ new_asset upload.now blob.now blob.now.stamp) }
+    ensures { IfOk result (λ asset. asset ≡ new_asset upload.now blob.now blob.now.timestamp) }
 {
     let content_type = upload.content_type.try_clone(alloc)?;
     Ok(Asset {
@@ -42,7 +42,7 @@ pub(crate) fn new_asset(alloc: Global, upload: &Upload, blob: &BlobRef) -> Resul
         size: upload.size,
         sha1: upload.sha1,
         content_type,
-        verified: blob.stamp,
+        verified: blob.timestamp,
         downloaded: None,
     })
 }

@@ -1,7 +1,7 @@
 ghost use Rattle.std.specs.Prelude.{◌≢◌, ◌≡◌, ℕ, codes, Option, Some, Err, IfErr, OnOk, IsSome};
 ghost use Rattle.nx_base.specs.declared.asset.Asset.{Asset};
 ghost use Rattle.repo_model.specs.State.{State, row_of};
-ghost use Rattle.repo_model.specs.Stamps.{time_of};
+ghost use Rattle.repo_model.specs.Timestamps.{time_of};
 ghost use Rattle.repo_model.specs.Plain.{config_of};
 ghost use Rattle.repo_model.specs.declared.reply.Refusal.TheVariants as refusal;
 ghost use Rattle.repo_core.specs.Asks.{deletes};

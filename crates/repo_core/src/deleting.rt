@@ -12,7 +12,7 @@ ghost use Rattle.asset_keeper.specs.Told.{Tells, Lasts};
 ghost use Rattle.nx_base.specs.declared.asset.Asset.{Asset};
 ghost use Rattle.nx_base.specs.declared.moment.Moment.{Moment};
 ghost use Rattle.repo_model.specs.State.{State, row_of};
-ghost use Rattle.repo_model.specs.Stamps.{time_of};
+ghost use Rattle.repo_model.specs.Timestamps.{time_of};
 ghost use Rattle.repo_model.specs.Plain.{config_of};
 ghost use Rattle.repo_model.specs.declared.call.Call.TheVariants as call;
 ghost use Rattle.repo_model.specs.declared.reply.Reply.TheVariants as reply;

@@ -1,7 +1,7 @@
 //! The repository over a disk and a keeper of rows: the files of blobs on one side, a table of rows on the other, and one
 //! history of what was asked and answered.
 //!
-//! - A [`Core`] owns both devices, the journal, and what it keeps itself: the blobs that are deleted, the last stamp, and
+//! - A [`Core`] owns both devices, the journal, and what it keeps itself: the blobs that are deleted, the last timestamp, and
 //!   who reads which blob ([`Own`], [`Hold`]).
 //! - A core *stands for* a state of the one-thread repository (crate `repo_model`) where files, rows and its own parts are
 //!   what the state says (`Tracks` in `specs/Standing.antt`, `FilesAgree` in `specs/Agree.antt`).

@@ -14,7 +14,7 @@ pub struct Own {
     pub trash: Queue,
     /// When the remote of a proxy last said that it has nothing of a key, in milliseconds.
     pub notes: KeyMap<u64>,
-    /// The last stamp that was given.
+    /// The last timestamp that was given.
     pub last: u64,
     /// How many uploads were begun in each store or group.
     pub counts: Counts,

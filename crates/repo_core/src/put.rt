@@ -1,7 +1,7 @@
 ghost use Rattle.std.specs.Prelude.{◌≡◌, ◌<◌, ◌^◌, codes, IfOk, IfErr, OnOk, IsSome, Some};
 ghost use Rattle.nx_base.specs.declared.asset.Asset.{Asset};
 ghost use Rattle.repo_model.specs.State.{State, row_of};
-ghost use Rattle.repo_model.specs.Stamps.{time_of};
+ghost use Rattle.repo_model.specs.Timestamps.{time_of};
 ghost use Rattle.tree_content.specs.Blobs.{bytes_name};
 ghost use Rattle.repo_model.specs.Plain.{config_of};
 ghost use Rattle.repo_core.specs.Asks.{puts};
@@ -40,7 +40,7 @@ impl<D: Disk, T: Keeper> Core<D, T> {
         ensures store { IfOk result (λ asset. asset.blob.store ≡ ready.store) }
         ensures made { D.told → IfOk result (λ asset. D.tree self.new.disk (bytes_name asset.blob) ≡ Some (D.Writer.content ready.file)) }
         // Its properties say what was put, and those of the blob that the key had, when and why it was replaced, and else what they said.
-        ensures says { D.told → IfOk result (λ asset. HasProps (D.tree self.new.disk) asset.blob (props_of (upload_of ready) asset.blob.stamp)) }
+        ensures says { D.told → IfOk result (λ asset. HasProps (D.tree self.new.disk) asset.blob (props_of (upload_of ready) asset.blob.timestamp)) }
         ensures marked { D.told → IsSome (T.table self.new.table) → MayGo (config_of self.old.config) ready.begin.key ready.store → AreBytes (upload_of ready) (D.Writer.content ready.file)
             → (s : State) (old : Asset) → Tracks D.tree T.table self.old s → row_of s ready.begin.key ≡ Some old
             → OnOk result (HasMark (D.tree self.old.disk) (D.tree self.new.disk) old.blob (codes "Replaced") (time_of moment.now)) }

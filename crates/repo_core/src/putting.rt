@@ -10,7 +10,7 @@ ghost use Rattle.repo_core.specs.Rows.{rows_in};
 ghost use Rattle.repo_core.specs.Agree.{Agrees};
 ghost use Rattle.repo_core.specs.Puts.{MayGo, AreBytes, IsPlaced, Prepares, put_call, props_of};
 ghost use Rattle.repo_core.specs.Stays.{BytesStay};
-ghost use Rattle.repo_core.specs.Asks.{Discards, Stamps, TouchesNew, Sets, SetsRow};
+ghost use Rattle.repo_core.specs.Asks.{Discards, Timestamps, TouchesNew, Sets, SetsRow};
 ghost use Rattle.repo_core.specs.Devices.{devices};
 ghost use Rattle.repo_core.specs.Parts.{KeepsRest};
 ghost use Rattle.asset_keeper.specs.Table.{changed};
@@ -20,7 +20,7 @@ ghost use Rattle.tree_content.specs.Blobs.{bytes_at, props_at, bytes_name, props
 ghost use Rattle.tree_content.specs.Files.{RestOfPlace, Creates};
 ghost use Rattle.repo_core.specs.Faults.{IsDisk, IsKeeper, DeniedBy, StoppedBy, refusal_for, refusal_of_stop};
 ghost use Rattle.repo_core.specs.Why.{WhyNotPut, keeps_rows};
-ghost use Rattle.repo_model.specs.Stamps.{greatest_time, next_stamp, time_of};
+ghost use Rattle.repo_model.specs.Timestamps.{greatest_time, next_timestamp, time_of};
 ghost use Rattle.repo_core.specs.Marks.{HasMark, HasOld, HasProps};
 ghost use Rattle.blob_properties.specs.Readable.{Readable};
 ghost use Rattle.repo_core.specs.Answers.{is_denied, is_broke};
@@ -102,14 +102,14 @@ fn prepare<D: Disk, T: Keeper>(
     ensures placed { IfOk result (λ staged. IsPlaced staged.new) }
     ensures sets { IfOk result (λ staged. Sets upload.now.key staged.new.change) }
     ensures old { D.told → IfOk result (λ staged. HasOld (D.tree disk.old) staged.mark) }
-    ensures says { IfOk result (λ staged. Readable staged.new.text.items (props_of upload.now staged.new.asset.blob.stamp)) }
+    ensures says { IfOk result (λ staged. Readable staged.new.text.items (props_of upload.now staged.new.asset.blob.timestamp)) }
     ensures free { D.told → IfOk result (λ staged. D.tree disk.old (props_name staged.new.asset.blob) ≡ None) }
     ensures rows { Tells (T.table table.old) (T.table table.new) (λ s t. t ≡ s) }
     ensures changes { T.changes table.new ≡ T.changes table.old }
     ensures lasting { Lasts T.lasts (T.table table.old) (T.table table.new) }
     ensures clean { OnErr result (own.new ≡ own.old) }
     ensures keeps { OnOk result ((own.new ≡ own.old) ⊎ Discards upload.now.key moment.entry.now own.old own.new) }
-    ensures stamp { IfOk result (λ staged. staged.new.asset.blob.stamp ≡ next_stamp own.old.last moment.entry.now.now) }
+    ensures timestamp { IfOk result (λ staged. staged.new.asset.blob.timestamp ≡ next_timestamp own.old.last moment.entry.now.now) }
     ensures tree { D.told → Same (D.tree disk.old) (D.tree disk.new) }
     ensures any_moment { D.told → During D.clock D.lists disk.old disk.new (Same (D.lists disk.old (D.clock disk.old))) }
     ensures shown { D.shown disk.new ≡ D.shown disk.old }
@@ -170,7 +170,7 @@ pub(crate) fn put_content<D: Disk, T: Keeper>(
         → During D.clock D.lists disk.old disk.new (EachImage (BeforeOrAfter (config_of config.now) s store.now (put_call upload.now moment.entry.now))) }
     ensures durable { D.told → is_broke result ≡ false → IsDurable D.tree D.clock D.lists disk.old → IsDurable D.tree D.clock D.lists disk.new }
     // The new blob's properties say what was put, and those of the blob that the key had, when and why it was replaced.
-    ensures says { D.told → IfOk result (λ kept. HasProps (D.tree disk.new) kept.asset.blob (props_of upload.now kept.asset.blob.stamp)) }
+    ensures says { D.told → IfOk result (λ kept. HasProps (D.tree disk.new) kept.asset.blob (props_of upload.now kept.asset.blob.timestamp)) }
     ensures marked { D.told → IsSome (T.table table.new) → MayGo (config_of config.now) upload.now.key store.now → AreBytes upload.now (D.Writer.content file)
         → (s : State) (old : Asset) → Agrees (config_of config.now) (D.tree disk.old) (rows_in (T.table table.old)) own.old s → row_of s upload.now.key ≡ Some old
         → OnOk result (HasMark (D.tree disk.old) (D.tree disk.new) old.blob (codes "Replaced") (time_of moment.entry.now.now)) }
@@ -183,7 +183,7 @@ pub(crate) fn put_content<D: Disk, T: Keeper>(
     ensures clean_files { D.told → is_denied result ≡ true → Same (D.tree disk.old) (D.tree disk.new) }
     ensures clean_moments { D.told → is_denied result ≡ true → During D.clock D.lists disk.old disk.new (Same (D.lists disk.old (D.clock disk.old))) }
     ensures clean_own { is_denied result ≡ true → own.new ≡ own.old }
-    ensures keeps { is_denied result ≡ false → Stamps upload.now.key moment.entry.now own.old own.new }
+    ensures keeps { is_denied result ≡ false → Timestamps upload.now.key moment.entry.now own.old own.new }
     ensures clean_rows { Tells (T.table table.old) (T.table table.new) (λ s t. is_denied result ≡ true → t ≡ s) }
     // It is stopped halfway only behind the first visible step, or by it, and denied only before.
     ensures shown { is_broke result ≡ true → Rose (D.shown disk.old) (D.shown disk.new) }
@@ -207,7 +207,7 @@ pub(crate) fn put_content<D: Disk, T: Keeper>(
             return Err(Stop::Denied(why));
         }
     };
-    own.last = new.asset.blob.stamp;
+    own.last = new.asset.blob.timestamp;
     if let Err(fault) = show_new(disk, table, file, &new) {
         give_up_mark(disk, mark);
         return Err(Stop::Broke(fault));

@@ -56,14 +56,14 @@ fn see_ref(blob: &BlobRef)
 /// A new blob of an upload.
 pub(crate) fn new_blob(alloc: Global, upload: &Upload, blob: &BlobRef) -> Result<NewBlob, NoMemory>
     requires size { upload.now.size < 2 ^ 63 }
-    requires stamp { blob.now.stamp < 2 ^ 48 }
+    requires timestamp { blob.now.timestamp < 2 ^ 48 }
     ensures made { IfOk result (IsNewBlob upload.now blob.now) }
     ensures range { IfOk result (λ new. IsTrue (change_in_range new.change)) }
     ensures copy { IfOk result (λ new. new.copy ≡ new.asset) }
 {
     see_ref(blob);
     let files = BlobFiles::of(alloc, blob, Layout::Volume)?;
-    let text = new_text(alloc, upload, blob.stamp)?;
+    let text = new_text(alloc, upload, blob.timestamp)?;
     let asset = new_asset(alloc, upload, blob)?;
     let copy = asset.try_clone(alloc)?;
     let row = Row {
@@ -171,12 +171,12 @@ pub(crate) fn stage_put<D: Disk>(
     at: u64,
 ) -> Result<Staged<D::Sealed>, Denial>
     requires size { upload.now.size < 2 ^ 63 }
-    requires stamp { blob.now.stamp < 2 ^ 48 }
+    requires timestamp { blob.now.timestamp < 2 ^ 48 }
     requires time { at < 2 ^ 48 }
     ensures named { IsRef blob.now }
     ensures new { IfOk result (λ staged. IsNewBlob upload.now blob.now staged.new) }
     ensures sets { IfOk result (λ staged. Sets upload.now.key staged.new.change) }
-    ensures says { IfOk result (λ staged. Readable staged.new.text.items (props_of upload.now staged.new.asset.blob.stamp)) }
+    ensures says { IfOk result (λ staged. Readable staged.new.text.items (props_of upload.now staged.new.asset.blob.timestamp)) }
     ensures range { IfOk result (λ staged. IsTrue (change_in_range staged.new.change)) }
     ensures copy { IfOk result (λ staged. staged.new.copy ≡ staged.new.asset) }
     ensures free { D.told → OnOk result (D.tree disk.old (props_name blob.now) ≡ None) }

@@ -101,7 +101,7 @@ fn first_bytes<R: Reader>(download: &mut Download<R>) -> [u8; 4] {
     bytes
 }
 
-/// The stamp, the size and the first bytes of what a key has.
+/// The timestamp, the size and the first bytes of what a key has.
 fn got(core: &mut Core<MemDisk, MapKeeper>, key: Key, now: u64) -> Option<(u64, u64, [u8; 4])>
     requires { slice_get core.old.holds 0 ≡ Some None }
 {
@@ -114,7 +114,7 @@ fn got(core: &mut Core<MemDisk, MapKeeper>, key: Key, now: u64) -> Option<(u64, 
         ) => {
             let bytes = first_bytes(&mut download);
             core.end_get(0, download);
-            Some((asset.blob.stamp, asset.size, bytes))
+            Some((asset.blob.timestamp, asset.size, bytes))
         }
         Ok(GotOf::Seen { .. }) | Ok(GotOf::NeedFetch { .. }) | Err(_) => None,
     }

@@ -26,7 +26,7 @@ use Rattle.repo_model.specs.declared.upload.Upload.{Upload}
 use Rattle.repo_model.specs.Config.{Config, Repo, repo_of, write_store, group_of, takes}
 use Rattle.repo_model.specs.State.{State, row_of}
 use Rattle.repo_model.specs.Outcome.{Outcome, answered, refused}
-use Rattle.repo_model.specs.Stamps.{greatest_time, time_of, next_stamp}
+use Rattle.repo_model.specs.Timestamps.{greatest_time, time_of, next_timestamp}
 use Rattle.repo_model.specs.Writing.{is_put, bars_put, bars_delete, keeps_row, count_of, counted}
 use Rattle.repo_model.specs.Storing.{Stored, stored, stored_as, with_asset, new_asset, is_taken}
 use Rattle.repo_model.specs.Freshness.{fresh, is_settled}
@@ -74,18 +74,18 @@ found_lawful state mid key look.Get now asset rises same =
     let seen = downloaded asset (time_of now) in answer_lawful state (record mid { rows = map.insert mid.rows key seen }) (reply.Found seen) rises same (λ a e. cc) (λ w e. cc)
 found_lawful state mid key look.Head now asset rises same = answer_lawful state mid (reply.Found asset) rises same (λ a e. cc) (λ w e. cc)
 
--- what is stored has the next stamp
+-- what is stored has the next timestamp
 stored_cases : (state : State) (store : List ℕ) (upload : Upload) (moment : Moment) (is_fetched : Bool) (P : Result Stored Refusal → Type 0)
     → ((why : Refusal) → why ≢ refusal.JournalFull → P (Err why))
-    → ((done : Stored) → state.last < done.asset.blob.stamp → done.new.last ≡ done.asset.blob.stamp → done.new.broken ≡ state.broken → P (Ok done))
+    → ((done : Stored) → state.last < done.asset.blob.timestamp → done.new.last ≡ done.asset.blob.timestamp → done.new.broken ≡ state.broken → P (Ok done))
     → P (stored state store upload moment is_fetched)
 stored_cases state store upload moment is_fetched P refuses stores =
-    let stamp = next_stamp state.last moment.now in
-    let blob : BlobRef = record { store = store; id = id_made stamp moment.random; stamp = stamp } in
-    let verified = cond is_fetched (time_of moment.now) stamp in
+    let timestamp = next_timestamp state.last moment.now in
+    let blob : BlobRef = record { store = store; id = id_made timestamp moment.random; timestamp = timestamp } in
+    let verified = cond is_fetched (time_of moment.now) timestamp in
     let asset = new_asset upload blob verified in
     let done : Stored = record { asset = asset; new = with_asset state upload.key asset (time_of moment.now) } in
-    let above : state.last < next_stamp state.last moment.now = omega arith in
+    let above : state.last < next_timestamp state.last moment.now = omega arith in
     if_cases P (nat_le greatest_time state.last) (Err refusal.StampsUsed) (stored_as state upload moment.now blob verified)
     (refuses refusal.StampsUsed (λ e. cc))
     (if_cases P (is_taken state blob) (Err (refusal.IdTaken blob.id)) (Ok done) (refuses (refusal.IdTaken blob.id) (λ e. cc)) (stores done above refl refl))
@@ -111,12 +111,12 @@ on_begin_lawful config state begin =
     (given_cases (Lawful state) (chosen (group_of config repo) (count_of state (write_store repo))) (refused state refusal.NoWritable) (begun repo state begin)
     (refusal_lawful state refusal.NoWritable (λ e. cc)) (begun_lawful repo state begin)))
 
-put_lawful : (state : State) (done : Stored) → state.last < done.asset.blob.stamp → done.new.last ≡ done.asset.blob.stamp → done.new.broken ≡ state.broken → Lawful state (put_reply state (Ok done))
+put_lawful : (state : State) (done : Stored) → state.last < done.asset.blob.timestamp → done.new.last ≡ done.asset.blob.timestamp → done.new.broken ≡ state.broken → Lawful state (put_reply state (Ok done))
 put_lawful state done above last same = record {
   rising = omega arith;
   newest = λ asset e.
       let is : done.asset ≡ asset = cc in
-      (subst (λ (a : Asset). state.last < a.blob.stamp) is above, subst (λ (a : Asset). done.new.last ≡ a.blob.stamp) is last);
+      (subst (λ (a : Asset). state.last < a.blob.timestamp) is above, subst (λ (a : Asset). done.new.last ≡ a.blob.timestamp) is last);
   unbroken = same;
   refusals = λ why e. cc;
   never_full = λ e. cc;

@@ -1,4 +1,4 @@
--- Along a legal history stamps rise, and no entry says that the journal is full.
+-- Along a legal history timestamps rise, and no entry says that the journal is full.
 use Rattle.std.proofs.Common.{◌≡◌, ◌≢◌, ℕ, ◌+◌, ◌<◌, ◌≤◌, List, [], ◌∷◌, Option, refl, sym, ap, subst, ◌∙◌, inl, inr, arith}
 use Rattle.std.specs.Prelude.{IfSome}
 use Rattle.nx_base.specs.declared.asset.Asset.{Asset}
@@ -13,13 +13,13 @@ use Rattle.repo_model.specs.State.{State}
 use Rattle.repo_model.specs.Outcome.{Outcome}
 use Rattle.repo_model.specs.Step.{Step}
 use Rattle.repo_model.specs.History.{refusal_of, Fails, IsDamaged, Follows, LegalFrom}
-use Rattle.repo_model.specs.Laws.{IsLawful, stamps_of, with_stamp, IsRising, NoneFull}
+use Rattle.repo_model.specs.Laws.{IsLawful, timestamps_of, with_timestamp, IsRising, NoneFull}
 use Rattle.repo_model.proofs.Lawful.{outcome_lawful}
 
--- what an entry does to the last stamp
+-- what an entry does to the last timestamp
 record Follows-facts (state : State) (said : Reply) (new : State) : Type 0 where
   rising : state.last ≤ new.last
-  newest : (asset : Asset) → said ≡ reply.Stored asset → (state.last < asset.blob.stamp) × (new.last ≡ asset.blob.stamp)
+  newest : (asset : Asset) → said ≡ reply.Stored asset → (state.last < asset.blob.timestamp) × (new.last ≡ asset.blob.timestamp)
   never_full : said ≢ reply.Refused refusal.JournalFull
 
 of_step : (config : Config) (state : State) (e : Entry) (new : State) → Step config state e.call e.reply new → Follows-facts state e.reply new
@@ -67,24 +67,24 @@ of_entry config number state e new follows =
       | inr other ↦ elim other [ inl fails ↦ of_fault number state e new fails | inr damage ↦ of_damage state e new damage ]
     ]
 
-lower : (k m : ℕ) (stamps : List ℕ) → k ≤ m → IsRising m stamps → IsRising k stamps
+lower : (k m : ℕ) (timestamps : List ℕ) → k ≤ m → IsRising m timestamps → IsRising k timestamps
 lower k m [] le rising = tt
-lower k m (s ∷ stamps) le rising = (omega (arith, le, rising.0), rising.1)
+lower k m (s ∷ timestamps) le rising = (omega (arith, le, rising.0), rising.1)
 
-one_more : (state new : State) (said : Reply) (stamps : List ℕ) → Follows-facts state said new → IsRising new.last stamps → IsRising state.last (with_stamp said stamps)
-one_more state new (reply.Begun store) stamps facts rising = lower state.last new.last stamps facts.rising rising
-one_more state new (reply.Stored asset) stamps facts rising =
-    let newest = facts.newest asset refl in (newest.0, subst (λ last. IsRising last stamps) newest.1 rising)
-one_more state new (reply.Found asset) stamps facts rising = lower state.last new.last stamps facts.rising rising
-one_more state new reply.Gone stamps facts rising = lower state.last new.last stamps facts.rising rising
-one_more state new reply.Removed stamps facts rising = lower state.last new.last stamps facts.rising rising
-one_more state new (reply.Reconciled kept) stamps facts rising = lower state.last new.last stamps facts.rising rising
-one_more state new (reply.Refused why) stamps facts rising = lower state.last new.last stamps facts.rising rising
+one_more : (state new : State) (said : Reply) (timestamps : List ℕ) → Follows-facts state said new → IsRising new.last timestamps → IsRising state.last (with_timestamp said timestamps)
+one_more state new (reply.Begun store) timestamps facts rising = lower state.last new.last timestamps facts.rising rising
+one_more state new (reply.Stored asset) timestamps facts rising =
+    let newest = facts.newest asset refl in (newest.0, subst (λ last. IsRising last timestamps) newest.1 rising)
+one_more state new (reply.Found asset) timestamps facts rising = lower state.last new.last timestamps facts.rising rising
+one_more state new reply.Gone timestamps facts rising = lower state.last new.last timestamps facts.rising rising
+one_more state new reply.Removed timestamps facts rising = lower state.last new.last timestamps facts.rising rising
+one_more state new (reply.Reconciled kept) timestamps facts rising = lower state.last new.last timestamps facts.rising rising
+one_more state new (reply.Refused why) timestamps facts rising = lower state.last new.last timestamps facts.rising rising
 
-pub stamps_rise : (config : Config) (number : ℕ) (state : State) (es : List Entry) (new : State) → LegalFrom config number state es new → IsRising state.last (stamps_of es)
-stamps_rise config number state [] new legal = tt
-stamps_rise config number state (e ∷ es) new legal =
-    one_more state legal.0 e.reply (stamps_of es) (of_entry config number state e legal.0 legal.1) (stamps_rise config (number + 1) legal.0 es new legal.2)
+pub timestamps_rise : (config : Config) (number : ℕ) (state : State) (es : List Entry) (new : State) → LegalFrom config number state es new → IsRising state.last (timestamps_of es)
+timestamps_rise config number state [] new legal = tt
+timestamps_rise config number state (e ∷ es) new legal =
+    one_more state legal.0 e.reply (timestamps_of es) (of_entry config number state e legal.0 legal.1) (timestamps_rise config (number + 1) legal.0 es new legal.2)
 
 pub none_full : (config : Config) (number : ℕ) (state : State) (es : List Entry) (new : State) → LegalFrom config number state es new → NoneFull es
 none_full config number state [] new legal = tt

@@ -7,7 +7,7 @@ use Rattle.nx_base.specs.declared.asset.Asset.{Asset}
 use Rattle.repo_model.specs.declared.deletion.Deletion.{Deletion}
 use Rattle.repo_model.specs.declared.reply.Reply.TheVariants as reply
 use Rattle.repo_model.specs.Outcome.{Outcome, answered}
-use Rattle.repo_model.specs.Stamps.{time_of}
+use Rattle.repo_model.specs.Timestamps.{time_of}
 use Rattle.repo_model.specs.State.{State}
 
 -- the trash with the blob of that asset of the key, deleted at that time

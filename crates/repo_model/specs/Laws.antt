@@ -10,10 +10,10 @@ use Rattle.repo_model.specs.State.{State}
 use Rattle.repo_model.specs.Outcome.{Outcome}
 
 pub record IsLawful (state : State) (o : Outcome) : Type 0 where
-  -- the last stamp never falls
+  -- the last timestamp never falls
   pub rising : state.last ≤ o.new.last
-  -- what is stored has a stamp above all that were given
-  pub newest : (asset : Asset) → o.reply ≡ reply.Stored asset → (state.last < asset.blob.stamp) × (o.new.last ≡ asset.blob.stamp)
+  -- what is stored has a timestamp above all that were given
+  pub newest : (asset : Asset) → o.reply ≡ reply.Stored asset → (state.last < asset.blob.timestamp) × (o.new.last ≡ asset.blob.timestamp)
   -- no step breaks the repository, or mends it
   pub unbroken : o.new.broken ≡ state.broken
   -- a refusal changes nothing but the notes
@@ -21,25 +21,25 @@ pub record IsLawful (state : State) (o : Outcome) : Type 0 where
   -- and no step says that the journal is full
   pub never_full : o.reply ≢ reply.Refused refusal.JournalFull
 
--- the stamp of what the reply stored, if it stored anything, and those after it
-abbrev pub with_stamp : Reply → List ℕ → List ℕ
-with_stamp (reply.Begun store) stamps = stamps
-with_stamp (reply.Stored asset) stamps = asset.blob.stamp ∷ stamps
-with_stamp (reply.Found asset) stamps = stamps
-with_stamp reply.Gone stamps = stamps
-with_stamp reply.Removed stamps = stamps
-with_stamp (reply.Reconciled kept) stamps = stamps
-with_stamp (reply.Refused why) stamps = stamps
+-- the timestamp of what the reply stored, if it stored anything, and those after it
+abbrev pub with_timestamp : Reply → List ℕ → List ℕ
+with_timestamp (reply.Begun store) timestamps = timestamps
+with_timestamp (reply.Stored asset) timestamps = asset.blob.timestamp ∷ timestamps
+with_timestamp (reply.Found asset) timestamps = timestamps
+with_timestamp reply.Gone timestamps = timestamps
+with_timestamp reply.Removed timestamps = timestamps
+with_timestamp (reply.Reconciled kept) timestamps = timestamps
+with_timestamp (reply.Refused why) timestamps = timestamps
 
--- the stamps of what was put, in the order of the entries
-abbrev pub stamps_of : List Entry → List ℕ
-stamps_of [] = []
-stamps_of (entry ∷ entries) = with_stamp entry.reply (stamps_of entries)
+-- the timestamps of what was put, in the order of the entries
+abbrev pub timestamps_of : List Entry → List ℕ
+timestamps_of [] = []
+timestamps_of (entry ∷ entries) = with_timestamp entry.reply (timestamps_of entries)
 
 -- each number is above the one before it, and the first above `last`
 abbrev pub IsRising : ℕ → List ℕ → Type 0
 IsRising last [] = Unit {0}
-IsRising last (stamp ∷ stamps) = (last < stamp) × IsRising stamp stamps
+IsRising last (timestamp ∷ timestamps) = (last < timestamp) × IsRising timestamp timestamps
 
 -- no entry says that the journal is full
 abbrev pub NoneFull : List Entry → Type 0

@@ -3,7 +3,7 @@ pub mod Spots
 pub mod Config
 pub mod State
 pub mod Outcome
-pub mod Stamps
+pub mod Timestamps
 pub mod Writing
 pub mod Storing
 pub mod Freshness

@@ -17,9 +17,9 @@ is_superseded state loose = given (row_of state loose.1) false (λ asset. is_lt 
 abbrev pub superseded : State → List (BlobRef × Key)
 superseded state = filter (is_superseded state) (map.entries state.loose)
 
--- such a blob counts as deleted at its own stamp
+-- such a blob counts as deleted at its own timestamp
 abbrev pub with_superseded : map.FinMap age_cmp Deletion → BlobRef × Key → map.FinMap age_cmp Deletion
-with_superseded trash loose = map.insert trash loose.0 (record { at = loose.0.stamp; key = loose.1 })
+with_superseded trash loose = map.insert trash loose.0 (record { at = loose.0.timestamp; key = loose.1 })
 
 abbrev pub without_superseded : map.FinMap age_cmp Key → BlobRef × Key → map.FinMap age_cmp Key
 without_superseded left loose = map.remove left loose.0

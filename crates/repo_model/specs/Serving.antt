@@ -7,7 +7,7 @@ use Rattle.repo_model.specs.declared.call.Look.{Look}
 use Rattle.repo_model.specs.declared.call.Look.TheVariants as look
 use Rattle.repo_model.specs.declared.reply.Reply.TheVariants as reply
 use Rattle.repo_model.specs.Outcome.{Outcome, answered}
-use Rattle.repo_model.specs.Stamps.{time_of}
+use Rattle.repo_model.specs.Timestamps.{time_of}
 use Rattle.repo_model.specs.State.{State}
 
 -- the asset with that download. The time of the last one never falls.

@@ -20,4 +20,4 @@ coded_spot = code_by (List ℕ × List ℕ) (coded× (coded_list coded_ℕ) (cod
 
 -- a blob is stored as its three parts
 abbrev pub coded_blob : Coded BlobRef
-coded_blob = code_by (List ℕ × (List ℕ × ℕ)) (coded× (coded_list coded_ℕ) (coded× (coded_list coded_ℕ) coded_ℕ)) (λ b. (b.store, (b.id, b.stamp))) (λ p. record { store = p.0; id = p.1.0; stamp = p.1.1 }) (λ _. refl)
+coded_blob = code_by (List ℕ × (List ℕ × ℕ)) (coded× (coded_list coded_ℕ) (coded× (coded_list coded_ℕ) coded_ℕ)) (λ b. (b.store, (b.id, b.timestamp))) (λ p. record { store = p.0; id = p.1.0; timestamp = p.1.1 }) (λ _. refl)

@@ -12,7 +12,7 @@ use Rattle.repo_model.specs.declared.reply.Cause.{Cause}
 use Rattle.repo_model.specs.Spots.{spot_cmp}
 
 -- rows: the asset of each key. trash: the deleted blobs. loose: the readable, undeleted blobs in stores of their repositories that no row names, with their keys.
--- taken: where properties files stand. notes: when the remote of a proxy last said that it has nothing of a key. last: the greatest stamp.
+-- taken: where properties files stand. notes: when the remote of a proxy last said that it has nothing of a key. last: the greatest timestamp.
 -- counts: the uploads begun in each store or group. broken: what broke the repository, if it is broken.
 pub record State : Type 0 where
   pub rows : map.FinMap key_cmp Asset

@@ -22,7 +22,7 @@ use Rattle.repo_model.specs.declared.upload.Upload.{Upload}
 use Rattle.repo_model.specs.Config.{Repo, Config, repo_of, write_store, group_of, takes}
 use Rattle.repo_model.specs.State.{State, row_of}
 use Rattle.repo_model.specs.Outcome.{Outcome, answered, refused}
-use Rattle.repo_model.specs.Stamps.{time_of}
+use Rattle.repo_model.specs.Timestamps.{time_of}
 use Rattle.repo_model.specs.Writing.{is_put, bars_put, bars_delete, keeps_row, count_of, counted}
 use Rattle.repo_model.specs.Storing.{Stored, stored}
 use Rattle.repo_model.specs.Freshness.{fresh, is_settled}

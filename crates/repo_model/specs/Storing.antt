@@ -12,7 +12,7 @@ use Rattle.repo_model.specs.declared.reply.Refusal.{Refusal}
 use Rattle.repo_model.specs.declared.reply.Refusal.TheVariants as refusal
 use Rattle.repo_model.specs.declared.upload.Upload.{Upload}
 use Rattle.repo_model.specs.Spots.{spot_of}
-use Rattle.repo_model.specs.Stamps.{greatest_time, time_of, next_stamp}
+use Rattle.repo_model.specs.Timestamps.{greatest_time, time_of, next_timestamp}
 use Rattle.repo_model.specs.State.{State, row_of}
 use Rattle.repo_model.specs.Deleting.{discarded}
 
@@ -35,7 +35,7 @@ with_asset state key asset at =
     record state {
       rows = map.insert state.rows key asset;
       trash = given (row_of state key) state.trash (λ old. discarded state.trash key old at);
-      last = asset.blob.stamp;
+      last = asset.blob.timestamp;
       taken = set.insert state.taken (spot_of asset.blob);
     }
 
@@ -45,10 +45,10 @@ stored_as state upload now blob verified =
     if is_taken state blob then Err (refusal.IdTaken blob.id)
     else let asset = new_asset upload blob verified in Ok (record { asset = asset; new = with_asset state upload.key asset (time_of now) })
 
--- the content is stored in that store under the next stamp. What a remote has is verified now, and what was put, at its stamp.
+-- the content is stored in that store under the next timestamp. What a remote has is verified now, and what was put, at its timestamp.
 abbrev pub stored : State → List ℕ → Upload → Moment → Bool → Result Stored Refusal
 stored state store upload moment is_fetched =
     if nat_le greatest_time state.last then Err refusal.StampsUsed
-    else let stamp = next_stamp state.last moment.now in
-    stored_as state upload moment.now (record { store = store; id = id_made stamp moment.random; stamp = stamp })
-    (if is_fetched then time_of moment.now else stamp)
+    else let timestamp = next_timestamp state.last moment.now in
+    stored_as state upload moment.now (record { store = store; id = id_made timestamp moment.random; timestamp = timestamp })
+    (if is_fetched then time_of moment.now else timestamp)

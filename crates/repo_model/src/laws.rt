@@ -8,9 +8,9 @@ ghost use Rattle.repo_model.specs.Step.{outcome};
 ghost use Rattle.repo_model.specs.History.{Legal, Follows};
 ghost use Rattle.repo_model.specs.Passes.{PassView, own_entries};
 ghost use Rattle.repo_model.specs.BrokenKeeper.{BreaksOnce};
-ghost use Rattle.repo_model.specs.Laws.{IsLawful, IsRising, stamps_of, NoneFull};
+ghost use Rattle.repo_model.specs.Laws.{IsLawful, IsRising, timestamps_of, NoneFull};
 
-/// Stamps rise, a refusal changes nothing but the notes, no step breaks the repository, and none
+/// Timestamps rise, a refusal changes nothing but the notes, no step breaks the repository, and none
 /// says that the journal is full.
 pub fn each_step_is_lawful()
     ensures { (c : Config) (s : State) (store : List ℕ) (call : Call) → IfSome (outcome c s store call) (IsLawful s) }
@@ -21,10 +21,10 @@ pub fn goes_on()
     ensures { (c : Config) (s m t : State) (es : List Entry) (e : Entry) → Legal c s es m → Follows c (length es) m e t → Legal c s (es ++ e ∷ []) t }
 {}
 
-/// In a legal history what is put has greater and greater stamps, and no entry says that the
+/// In a legal history what is put has greater and greater timestamps, and no entry says that the
 /// journal is full.
-pub fn stamps_rise()
-    ensures rise { (c : Config) (s t : State) (es : List Entry) → Legal c s es t → IsRising s.last (stamps_of es) }
+pub fn timestamps_rise()
+    ensures rise { (c : Config) (s t : State) (es : List Entry) → Legal c s es t → IsRising s.last (timestamps_of es) }
     ensures none_full { (c : Config) (s t : State) (es : List Entry) → Legal c s es t → NoneFull es }
 {}
 

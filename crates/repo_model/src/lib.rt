@@ -3,7 +3,7 @@
 //! - A *call* is what a caller asks (`Call`), a *reply* what it is told (`Reply`), an *entry* both
 //!   together (`Entry`). A `Journal` is a list of entries with a limit on their number.
 //! - The *state* is what the repository holds: the rows, the deleted blobs, the names that are
-//!   taken, the notes of what remotes lack, the last stamp, and what broke it.
+//!   taken, the notes of what remotes lack, the last timestamp, and what broke it.
 //! - The *step* says of a configuration, a state and a call which reply comes and which state
 //!   follows. A *legal history* is a list of entries that are steps, one after another, among
 //!   which calls may also be refused because a device, the memory or a stored content failed.

@@ -28,7 +28,7 @@ pub enum Refusal {
     NoWritable,
     /// A blob with the new one's id stands in the store.
     IdTaken { id: BlobId },
-    /// The last stamp has been given.
+    /// The last timestamp has been given.
     StampsUsed,
     /// The remote failed, and nothing is stored.
     RemoteFault,

@@ -71,14 +71,14 @@ module _ {A D T W R : Type 0} (devices : Devices D T) (view : A → SessionView 
   pub past_turns : (moments : List Moment) (requests : List Item) (written : List ℕ) (x y : A) (over : Bool) (count : ℕ) → HasDrawn (view x).draws moments 0
       → ChainsPast Says x requests written y over count → HasTurnsPast devices (view x).core moments requests written count
   past_turns moments requests written x y over count drawn c = record {
-    front = c.front;
+    prefix = c.prefix;
     last = c.last;
     before = c.before;
     answer = c.answer.bytes;
     mid = (view c.mid).core;
     requests_are = c.requests;
     parts = c.parts;
-    made = chain_turns moments 0 c.front c.before x c.mid false drawn c.made;
+    made = chain_turns moments 0 c.prefix c.before x c.mid false drawn c.made;
     past = c.past;
   }
 
@@ -86,7 +86,7 @@ module _ {A D T W R : Type 0} (devices : Devices D T) (view : A → SessionView 
       → DownloadFails devices (view x).core (view y).core
   chain_fails moments x y drawn c = λ is table.
       let failed = c.fails is table in
-      let before = chain_turns moments 0 c.front c.before x c.start false drawn c.made in
+      let before = chain_turns moments 0 c.prefix c.before x c.start false drawn c.made in
       let runs = before.2 in (
         runs.since.tells failed.0,
         λ state contents stands.

@@ -1,4 +1,4 @@
--- The bytes of a download on their way out, piece by piece, behind the front of a response.
+-- The bytes of a download on their way out, piece by piece, behind the head of a response.
 use Rattle.std.proofs.Common.{◌≡◌, ℕ, ◌+◌, ◌-◌, ◌<◌, ◌≤◌, min, List, [], ◌++◌, length, take, drop, Option, Result, Ok, Err, refl, sym, ap, ◌∙◌, subst, arith, append_assoc}
 use Rattle.std.proofs.lemmas.List.{append-nil, take-append-le, take-append-drop, length-take}
 use Rattle.std.proofs.Math.Seq.{take-length, take-append-add}
@@ -11,7 +11,7 @@ use Rattle.http_front.specs.declared.unsaid.Unsaid.{Unsaid}
 use Rattle.http_front.specs.declared.unsaid.Unsaid.TheVariants.{WriteFault, DownloadFault}
 use Rattle.repo_session.specs.Giving.{HasRead, IsGivenBehind, HasFailed, HasGivenCause}
 use Rattle.repo_session.specs.Sending.{Sent, SentSome}
-use Rattle.repo_session.proofs.Sendings.{appends_none, appends_both, sent_front, sent_behind}
+use Rattle.repo_session.proofs.Sendings.{appends_none, appends_both, sent_prefix, sent_behind}
 
 -- of a part that was read, the bytes
 part_is : (n : ℕ) (bytes buf : List ℕ) → n ≤ length bytes → take n (take n bytes ++ drop n buf) ≡ take n bytes
@@ -50,30 +50,30 @@ behind_first piece filled rest at n within fits =
     ap (λ (k : ℕ). take (k + n) (take at piece ++ (filled ++ rest))) (sym is) ∙ take-append-add (take at piece) (filled ++ rest) n
     ∙ ap (λ (l : List ℕ). take at piece ++ l) (take-append-le n filled rest fits)
 
--- a piece that begins with a front
-pub begins_with : (front copied rest : List ℕ) → copied ≡ front → take (length front) (copied ++ rest) ≡ front
-begins_with front copied rest is =
-    ap (λ (l : List ℕ). take (length front) (l ++ rest)) is ∙ take-append-le (length front) front rest (omega arith) ∙ take-length front
+-- a piece that begins with a prefix
+pub begins_with : (prefix copied rest : List ℕ) → copied ≡ prefix → take (length prefix) (copied ++ rest) ≡ prefix
+begins_with prefix copied rest is =
+    ap (λ (l : List ℕ). take (length prefix) (l ++ rest)) is ∙ take-append-le (length prefix) prefix rest (omega arith) ∙ take-length prefix
 
--- From one download to another, behind the front of a response, some bytes were written and some wait: the front, and, told, those
+-- From one download to another, behind the head of a response, some bytes were written and some wait: the prefix, and, told, those
 -- between what was to come first and what is to come now. Counts of faults never fall.
-pub record GivesOut {R : Type 0} (told : Type 0) (left : R → List ℕ) (faults : R → ℕ) (front : List ℕ) (start now : Download R) (waiting : List ℕ) (taken taken' : Option (List ℕ)) (writes writes' : ℕ) : Type 0 where
+pub record GivesOut {R : Type 0} (told : Type 0) (left : R → List ℕ) (faults : R → ℕ) (prefix : List ℕ) (start now : Download R) (waiting : List ℕ) (taken taken' : Option (List ℕ)) (writes writes' : ℕ) : Type 0 where
   pub written : List ℕ
   pub given : List ℕ
   pub appends : Appends taken taken' written
-  pub parts : written ++ waiting ≡ front ++ given
+  pub parts : written ++ waiting ≡ prefix ++ given
   pub rest : told → IsWhole left start → to_come left start ≡ given ++ to_come left now
   pub whole : told → IsWhole left start → IsWhole left now
   pub sink_later : writes ≤ writes'
   pub reader_later : faults start.reader ≤ faults now.reader
 
-pub gives_first : {R : Type 0} (told : Type 0) (left : R → List ℕ) (faults : R → ℕ) (front : List ℕ) (start : Download R) (waiting : List ℕ) (taken : Option (List ℕ)) (writes : ℕ)
-    → waiting ≡ front → GivesOut told left faults front start start waiting taken taken writes writes
-gives_first told left faults front start waiting taken writes is = record {
+pub gives_first : {R : Type 0} (told : Type 0) (left : R → List ℕ) (faults : R → ℕ) (prefix : List ℕ) (start : Download R) (waiting : List ℕ) (taken : Option (List ℕ)) (writes : ℕ)
+    → waiting ≡ prefix → GivesOut told left faults prefix start start waiting taken taken writes writes
+gives_first told left faults prefix start waiting taken writes is = record {
   written = [];
   given = [];
   appends = appends_none taken;
-  parts = is ∙ sym (append-nil front);
+  parts = is ∙ sym (append-nil prefix);
   rest = λ told whole. refl;
   whole = λ told whole. whole;
   sink_later = omega arith;
@@ -81,19 +81,19 @@ gives_first told left faults front start waiting taken writes is = record {
 }
 
 -- what waits joins what was written, and a part what was given
-joined : (front written waiting given part : List ℕ) → written ++ waiting ≡ front ++ given → written ++ (waiting ++ part) ≡ front ++ (given ++ part)
-joined front written waiting given part is = sym (append_assoc written waiting part) ∙ ap (λ (l : List ℕ). l ++ part) is ∙ append_assoc front given part
+joined : (prefix written waiting given part : List ℕ) → written ++ waiting ≡ prefix ++ given → written ++ (waiting ++ part) ≡ prefix ++ (given ++ part)
+joined prefix written waiting given part is = sym (append_assoc written waiting part) ∙ ap (λ (l : List ℕ). l ++ part) is ∙ append_assoc prefix given part
 
 -- another piece was read and written
-pub gives_more : {R : Type 0} (told : Type 0) (left : R → List ℕ) (faults : R → ℕ) (front : List ℕ) (start before after : Download R) (waiting piece : List ℕ) (taken taken' taken'' : Option (List ℕ)) (writes writes' writes'' at n : ℕ)
-    → GivesOut told left faults front start before waiting taken taken' writes writes' → HasRead told left faults before after waiting piece at n
+pub gives_more : {R : Type 0} (told : Type 0) (left : R → List ℕ) (faults : R → ℕ) (prefix : List ℕ) (start before after : Download R) (waiting piece : List ℕ) (taken taken' taken'' : Option (List ℕ)) (writes writes' writes'' at n : ℕ)
+    → GivesOut told left faults prefix start before waiting taken taken' writes writes' → HasRead told left faults before after waiting piece at n
     → Appends taken' taken'' (take (at + n) piece) → writes' ≤ writes''
-    → GivesOut told left faults front start after [] taken taken'' writes writes''
-gives_more told left faults front start before after waiting piece taken taken' taken'' writes writes' writes'' at n gives read sent later = record {
+    → GivesOut told left faults prefix start after [] taken taken'' writes writes''
+gives_more told left faults prefix start before after waiting piece taken taken' taken'' writes writes' writes'' at n gives read sent later = record {
   written = gives.written ++ take (at + n) piece;
   given = gives.given ++ read.part;
   appends = appends_both taken taken' taken'' gives.written (take (at + n) piece) gives.appends sent;
-  parts = append-nil (gives.written ++ take (at + n) piece) ∙ ap (λ (l : List ℕ). gives.written ++ l) read.filled ∙ joined front gives.written waiting gives.given read.part gives.parts;
+  parts = append-nil (gives.written ++ take (at + n) piece) ∙ ap (λ (l : List ℕ). gives.written ++ l) read.filled ∙ joined prefix gives.written waiting gives.given read.part gives.parts;
   rest = λ is whole. gives.rest is whole ∙ ap (λ (l : List ℕ). gives.given ++ l) (read.rest is (gives.whole is whole))
       ∙ sym (append_assoc gives.given read.part (to_come left after));
   whole = λ is whole. read.whole is (gives.whole is whole);
@@ -102,26 +102,26 @@ gives_more told left faults front start before after waiting piece taken taken' 
 }
 
 -- what waits was written, as far as it could be, and no more is given than such bytes behind it
-pub gives_rest : {R : Type 0} (told : Type 0) (left : R → List ℕ) (faults : R → ℕ) (front : List ℕ) (start now : Download R) (waiting more all : List ℕ) (taken taken' taken'' : Option (List ℕ)) (writes writes' : ℕ) (result : Result (Unit {0}) Unsaid)
-    → GivesOut told left faults front start now waiting taken taken' writes writes' → (told → IsWhole left now → to_come left now ≡ more) → all ≡ waiting ++ more
+pub gives_rest : {R : Type 0} (told : Type 0) (left : R → List ℕ) (faults : R → ℕ) (prefix : List ℕ) (start now : Download R) (waiting more all : List ℕ) (taken taken' taken'' : Option (List ℕ)) (writes writes' : ℕ) (result : Result (Unit {0}) Unsaid)
+    → GivesOut told left faults prefix start now waiting taken taken' writes writes' → (told → IsWhole left now → to_come left now ≡ more) → all ≡ waiting ++ more
     → Sent taken' taken'' all result
-    → SentSome (IsGivenBehind told left front start) taken taken'' result
-gives_rest told left faults front start now waiting more all taken taken' taken'' writes writes' result gives ends is sent = (
+    → SentSome (IsGivenBehind told left prefix start) taken taken'' result
+gives_rest told left faults prefix start now waiting more all taken taken' taken'' writes writes' result gives ends is sent = (
   gives.written ++ all,
   (
     gives.given ++ more,
     λ t whole. sym (gives.rest t whole ∙ ap (λ (l : List ℕ). gives.given ++ l) (ends t (gives.whole t whole))),
-    ap (λ (l : List ℕ). gives.written ++ l) is ∙ joined front gives.written waiting gives.given more gives.parts,
+    ap (λ (l : List ℕ). gives.written ++ l) is ∙ joined prefix gives.written waiting gives.given more gives.parts,
   ),
   sent_behind taken taken' taken'' gives.written all result gives.appends sent,
 )
 
 -- the download is at its end
-pub gives_all : {R : Type 0} (told : Type 0) (left : R → List ℕ) (faults : R → ℕ) (front : List ℕ) (start before after : Download R) (waiting piece now : List ℕ) (taken taken' taken'' : Option (List ℕ)) (writes writes' at : ℕ) (result : Result (Unit {0}) Unsaid)
-    → GivesOut told left faults front start before waiting taken taken' writes writes' → HasRead told left faults before after waiting piece at 0 → after.given ≡ after.size → now ≡ waiting → Sent taken' taken'' now result
-    → SentSome (IsGivenBehind told left front start) taken taken'' result
-gives_all told left faults front start before after waiting piece now taken taken' taken'' writes writes' at result gives read ended is sent =
-    gives_rest told left faults front start before waiting [] now taken taken' taken'' writes writes' result gives
+pub gives_all : {R : Type 0} (told : Type 0) (left : R → List ℕ) (faults : R → ℕ) (prefix : List ℕ) (start before after : Download R) (waiting piece now : List ℕ) (taken taken' taken'' : Option (List ℕ)) (writes writes' at : ℕ) (result : Result (Unit {0}) Unsaid)
+    → GivesOut told left faults prefix start before waiting taken taken' writes writes' → HasRead told left faults before after waiting piece at 0 → after.given ≡ after.size → now ≡ waiting → Sent taken' taken'' now result
+    → SentSome (IsGivenBehind told left prefix start) taken taken'' result
+gives_all told left faults prefix start before after waiting piece now taken taken' taken'' writes writes' at result gives read ended is sent =
+    gives_rest told left faults prefix start before waiting [] now taken taken' taken'' writes writes' result gives
     (λ t whole. read.rest t whole ∙ ap (λ (l : List ℕ). l ++ to_come left after) (read.none refl) ∙ nothing) (is ∙ sym (append-nil waiting)) sent
   where
     none : (n m : ℕ) (bytes : List ℕ) → n ≡ m → take (m - n) bytes ≡ []
@@ -131,44 +131,44 @@ gives_all told left faults front start before after waiting piece now taken take
     nothing = none after.given after.size (left after.reader) ended
 
 -- a piece was written in part alone
-pub gives_front : {R : Type 0} (told : Type 0) (left : R → List ℕ) (faults : R → ℕ) (front : List ℕ) (start before after : Download R) (waiting piece : List ℕ) (taken taken' taken'' : Option (List ℕ)) (writes writes' at n : ℕ) (why : Unsaid)
-    → GivesOut told left faults front start before waiting taken taken' writes writes' → HasRead told left faults before after waiting piece at n
+pub gives_prefix : {R : Type 0} (told : Type 0) (left : R → List ℕ) (faults : R → ℕ) (prefix : List ℕ) (start before after : Download R) (waiting piece : List ℕ) (taken taken' taken'' : Option (List ℕ)) (writes writes' at n : ℕ) (why : Unsaid)
+    → GivesOut told left faults prefix start before waiting taken taken' writes writes' → HasRead told left faults before after waiting piece at n
     → Sent taken' taken'' (take (at + n) piece) (Err why)
-    → SentSome (IsGivenBehind told left front start) taken taken'' (Err why)
-gives_front told left faults front start before after waiting piece taken taken' taken'' writes writes' at n why gives read sent =
-    gives_rest told left faults front start before waiting (read.part ++ to_come left after) (take (at + n) piece ++ to_come left after) taken taken' taken'' writes writes' (Err why) gives read.rest
+    → SentSome (IsGivenBehind told left prefix start) taken taken'' (Err why)
+gives_prefix told left faults prefix start before after waiting piece taken taken' taken'' writes writes' at n why gives read sent =
+    gives_rest told left faults prefix start before waiting (read.part ++ to_come left after) (take (at + n) piece ++ to_come left after) taken taken' taken'' writes writes' (Err why) gives read.rest
     (ap (λ (l : List ℕ). l ++ to_come left after) read.filled ∙ append_assoc waiting read.part (to_come left after))
-    (sent_front taken' taken'' (take (at + n) piece) (to_come left after) why sent)
+    (sent_prefix taken' taken'' (take (at + n) piece) (to_come left after) why sent)
 
 -- the download failed, and what waits was written in part alone
-pub gives_so_far : {R : Type 0} (told : Type 0) (left : R → List ℕ) (faults : R → ℕ) (front : List ℕ) (start before : Download R) (waiting now : List ℕ) (taken taken' taken'' : Option (List ℕ)) (writes writes' : ℕ) (why : Unsaid)
-    → GivesOut told left faults front start before waiting taken taken' writes writes' → now ≡ waiting → Sent taken' taken'' now (Err why)
-    → SentSome (IsGivenBehind told left front start) taken taken'' (Err why)
-gives_so_far told left faults front start before waiting now taken taken' taken'' writes writes' why gives is sent =
-    gives_rest told left faults front start before waiting (to_come left before) (now ++ to_come left before) taken taken' taken'' writes writes' (Err why) gives (λ t whole. refl)
-    (ap (λ (l : List ℕ). l ++ to_come left before) is) (sent_front taken' taken'' now (to_come left before) why sent)
+pub gives_so_far : {R : Type 0} (told : Type 0) (left : R → List ℕ) (faults : R → ℕ) (prefix : List ℕ) (start before : Download R) (waiting now : List ℕ) (taken taken' taken'' : Option (List ℕ)) (writes writes' : ℕ) (why : Unsaid)
+    → GivesOut told left faults prefix start before waiting taken taken' writes writes' → now ≡ waiting → Sent taken' taken'' now (Err why)
+    → SentSome (IsGivenBehind told left prefix start) taken taken'' (Err why)
+gives_so_far told left faults prefix start before waiting now taken taken' taken'' writes writes' why gives is sent =
+    gives_rest told left faults prefix start before waiting (to_come left before) (now ++ to_come left before) taken taken' taken'' writes writes' (Err why) gives (λ t whole. refl)
+    (ap (λ (l : List ℕ). l ++ to_come left before) is) (sent_prefix taken' taken'' now (to_come left before) why sent)
 
 -- and as a whole
 pub all_sent : (taken taken' : Option (List ℕ)) (bytes : List ℕ) → Appends taken taken' bytes → Sent taken taken' bytes (Err DownloadFault)
 all_sent taken taken' bytes sent = (length bytes, omega arith, subst (λ (l : List ℕ). Appends taken taken' l) (sym (take-length bytes)) sent)
 
--- a front that is longer than a piece was written alone, in part
-pub alone_front : {R : Type 0} (told : Type 0) (left : R → List ℕ) (front : List ℕ) (download : Download R) (taken taken' : Option (List ℕ)) (why : Unsaid)
-    → Sent taken taken' front (Err why) → SentSome (IsGivenBehind told left front download) taken taken' (Err why)
-alone_front told left front download taken taken' why sent = (
-  front ++ to_come left download,
+-- a prefix that is longer than a piece was written alone, in part
+pub alone_prefix : {R : Type 0} (told : Type 0) (left : R → List ℕ) (prefix : List ℕ) (download : Download R) (taken taken' : Option (List ℕ)) (why : Unsaid)
+    → Sent taken taken' prefix (Err why) → SentSome (IsGivenBehind told left prefix download) taken taken' (Err why)
+alone_prefix told left prefix download taken taken' why sent = (
+  prefix ++ to_come left download,
   (to_come left download, λ t whole. refl, refl),
-  sent_front taken taken' front (to_come left download) why sent,
+  sent_prefix taken taken' prefix (to_come left download) why sent,
 )
 
 -- or as a whole, and the content behind it
-pub alone_content : {R : Type 0} (told : Type 0) (left : R → List ℕ) (front : List ℕ) (download : Download R) (taken taken' taken'' : Option (List ℕ)) (result : Result (Unit {0}) Unsaid)
-    → Appends taken taken' front → SentSome (IsGivenBehind told left [] download) taken' taken'' result
-    → SentSome (IsGivenBehind told left front download) taken taken'' result
-alone_content told left front download taken taken' taken'' result first sent = (
-  front ++ sent.0,
+pub alone_content : {R : Type 0} (told : Type 0) (left : R → List ℕ) (prefix : List ℕ) (download : Download R) (taken taken' taken'' : Option (List ℕ)) (result : Result (Unit {0}) Unsaid)
+    → Appends taken taken' prefix → SentSome (IsGivenBehind told left [] download) taken' taken'' result
+    → SentSome (IsGivenBehind told left prefix download) taken taken'' result
+alone_content told left prefix download taken taken' taken'' result first sent = (
+  prefix ++ sent.0,
   (sent.0, λ t whole. sent.1.2 ∙ sent.1.1 t whole, refl),
-  sent_behind taken taken' taken'' front sent.0 result first sent.2,
+  sent_behind taken taken' taken'' prefix sent.0 result first sent.2,
 )
 
 -- the reader was taken back behind the download

@@ -27,7 +27,7 @@ use Rattle.repo_model.specs.declared.upload.Upload.{Upload}
 use Rattle.repo_model.specs.Config.{Config, Repo, repo_of, write_store, group_of, takes}
 use Rattle.repo_model.specs.State.{State, row_of}
 use Rattle.repo_model.specs.Outcome.{Outcome, answered, refused}
-use Rattle.repo_model.specs.Stamps.{greatest_time, time_of, next_stamp}
+use Rattle.repo_model.specs.Timestamps.{greatest_time, time_of, next_timestamp}
 use Rattle.repo_model.specs.Writing.{is_put, bars_put, bars_delete, keeps_row, count_of, counted}
 use Rattle.repo_model.specs.Storing.{Stored, stored, stored_as, with_asset, new_asset, is_taken}
 use Rattle.repo_model.specs.Freshness.{fresh, is_settled}
@@ -105,11 +105,11 @@ put_rows s key k new asset row = elim (same_or_other_key k key) [
 
 stored_plain : (s : State) (store : List ℕ) (upload : Upload) (moment : Moment) → Plain s (put_reply s (stored s store upload moment false))
 stored_plain s store upload moment =
-    let stamp = next_stamp s.last moment.now in
-    let blob : BlobRef = record { store = store; id = id_made stamp moment.random; stamp = stamp } in
-    let asset = new_asset upload blob stamp in
+    let timestamp = next_timestamp s.last moment.now in
+    let blob : BlobRef = record { store = store; id = id_made timestamp moment.random; timestamp = timestamp } in
+    let asset = new_asset upload blob timestamp in
     let done : Stored = record { asset = asset; new = with_asset s upload.key asset (time_of moment.now) } in
-    if_cases (λ r. Plain s (put_reply s r)) (nat_le greatest_time s.last) (Err refusal.StampsUsed) (stored_as s upload moment.now blob stamp)
+    if_cases (λ r. Plain s (put_reply s r)) (nat_le greatest_time s.last) (Err refusal.StampsUsed) (stored_as s upload moment.now blob timestamp)
     (refusal_plain s refusal.StampsUsed tt)
     (if_cases (λ r. Plain s (put_reply s r)) (is_taken s blob) (Err (refusal.IdTaken blob.id)) (Ok done)
     (refusal_plain s (refusal.IdTaken blob.id) tt)
@@ -216,10 +216,10 @@ pub step_plain : (config : Config) (s : State) (c : Call) (said : Reply) (new : 
 step_plain config s c said new asked step =
     subst (λ (o : Option Outcome). IfSome o (λ (o : Outcome). IsPlain s o.reply o.new)) step.1 (outcome_plain config s step.0 c asked)
 
--- What an entry makes of the rows and of the last stamp.
+-- What an entry makes of the rows and of the last timestamp.
 pub record Leads (s : State) (said : Reply) (new : State) : Type 0 where
   pub rising : s.last ≤ new.last
-  pub newest : (asset : Asset) → said ≡ reply.Stored asset → (s.last < asset.blob.stamp) × (new.last ≡ asset.blob.stamp)
+  pub newest : (asset : Asset) → said ≡ reply.Stored asset → (s.last < asset.blob.timestamp) × (new.last ≡ asset.blob.timestamp)
   pub rows : (key : Key) (asset : Asset) → map.get new.rows key ≡ Some asset → IsNamedOrStored s said asset
   pub found : (asset : Asset) → said ≡ reply.Found asset → IsNamed s asset
 
@@ -240,7 +240,7 @@ fault_finds fault.Disk asset e = cc
 fault_finds fault.Keeper asset e = cc
 fault_finds fault.Memory asset e = cc
 
--- nothing was stored or found, and last stamp and rows stay
+-- nothing was stored or found, and last timestamp and rows stay
 nothing_leads : (s : State) (said : Reply) (new : State) → new.last ≡ s.last → new.rows ≡ s.rows
     → ((asset : Asset) → said ≢ reply.Stored asset) → ((asset : Asset) → said ≢ reply.Found asset) → Leads s said new
 nothing_leads s said new last rows stores finds = record {

@@ -174,10 +174,10 @@ looked_up {D} {T} {W} {R} devices left start new mid head key kind moment result
     key_is : head.key ≡ key
     key_is = (looks_by head head.method key kind asked).key_is
 
--- the bytes that are written behind a look: the front, and behind it the content that is open
+-- the bytes that are written behind a look: the prefix, and behind it the content that is open
 abbrev Shown : {R : Type 0} → Type 0 → (R → List ℕ) → List ℕ → Option (Download R) → List ℕ → Type 0
-Shown told left front (Some download) bytes = IsGivenBehind told left front download bytes
-Shown told left front None bytes = bytes ≡ front
+Shown told left prefix (Some download) bytes = IsGivenBehind told left prefix download bytes
+Shown told left prefix None bytes = bytes ≡ prefix
 
 -- they are the response, and the content that they give is there
 abbrev IsResponse : Contents → Head → Reply → List ℕ → Type 0
@@ -191,32 +191,32 @@ without_content : (bare : Bool) (first held : List ℕ) → bare ≡ true → fi
 without_content true first held e = refl
 without_content false first held e = absurd (cc)
 
-shown_is : {R : Type 0} (told : Type 0) (left : R → List ℕ) (contents : Contents) (head : Head) (kind : Look) (found : Option (Download R)) (said : Reply) (front bytes : List ℕ)
-    → told → is_head head.method ≡ bare_of kind → Opens kind found said → ShowsHeld left contents found said → front ≡ (reply_to [] head said).bytes → Shown told left front found bytes
+shown_is : {R : Type 0} (told : Type 0) (left : R → List ℕ) (contents : Contents) (head : Head) (kind : Look) (found : Option (Download R)) (said : Reply) (prefix bytes : List ℕ)
+    → told → is_head head.method ≡ bare_of kind → Opens kind found said → ShowsHeld left contents found said → prefix ≡ (reply_to [] head said).bytes → Shown told left prefix found bytes
     → IsResponse contents head said bytes
-shown_is {R} told left contents head look.Get (Some download) said front bytes tells bare (asset, is) shows front_is (content, given, all) =
+shown_is {R} told left contents head look.Get (Some download) said prefix bytes tells bare (asset, is) shows prefix_is (content, given, all) =
     let held : GivesContent left contents asset download = subst (λ (r : Reply). ShowsHeld left contents (Some download) r) is shows in
-    let first : front ≡ (reply_to [] head (reply.Found asset)).bytes = front_is ∙ ap (λ (r : Reply). (reply_to [] head r).bytes) is in
+    let first : prefix ≡ (reply_to [] head (reply.Found asset)).bytes = prefix_is ∙ ap (λ (r : Reply). (reply_to [] head r).bytes) is in
     subst (λ (r : Reply). IsResponse contents head r bytes) (sym is) (
       record { keeps = λ content. refl; served = held.there },
       all ∙ ap (λ (l : List ℕ). l ++ content) first
           ∙ with_content_of (is_head head.method) (head_of 200 (Some asset.content_type) (Some asset.size) head.closes) content (bytes_of contents asset.blob) bare
           (content_is told left contents asset download content tells held given),
     )
-shown_is {R} told left contents head look.Get None said front bytes tells bare (why, is) shows front_is all =
+shown_is {R} told left contents head look.Get None said prefix bytes tells bare (why, is) shows prefix_is all =
     subst (λ (r : Reply). IsResponse contents head r bytes) (sym is)
-    (record { keeps = λ content. refl; served = tt }, all ∙ front_is ∙ ap (λ (r : Reply). (reply_to [] head r).bytes) is)
-shown_is {R} told left contents head look.Head (Some download) said front bytes tells bare opens shows front_is all = absurd opens
-shown_is {R} told left contents head look.Head None said front bytes tells bare (inl (asset, is)) shows front_is all =
+    (record { keeps = λ content. refl; served = tt }, all ∙ prefix_is ∙ ap (λ (r : Reply). (reply_to [] head r).bytes) is)
+shown_is {R} told left contents head look.Head (Some download) said prefix bytes tells bare opens shows prefix_is all = absurd opens
+shown_is {R} told left contents head look.Head None said prefix bytes tells bare (inl (asset, is)) shows prefix_is all =
     let held = subst (λ (r : Reply). ShowsHeld left contents None r) is shows in
     subst (λ (r : Reply). IsResponse contents head r bytes) (sym is) (
       record { keeps = λ content. refl; served = held },
-      all ∙ front_is ∙ ap (λ (r : Reply). (reply_to [] head r).bytes) is
+      all ∙ prefix_is ∙ ap (λ (r : Reply). (reply_to [] head r).bytes) is
           ∙ without_content (is_head head.method) (head_of 200 (Some asset.content_type) (Some asset.size) head.closes) (bytes_of contents asset.blob) bare,
     )
-shown_is {R} told left contents head look.Head None said front bytes tells bare (inr (why, is)) shows front_is all =
+shown_is {R} told left contents head look.Head None said prefix bytes tells bare (inr (why, is)) shows prefix_is all =
     subst (λ (r : Reply). IsResponse contents head r bytes) (sym is)
-    (record { keeps = λ content. refl; served = tt }, all ∙ front_is ∙ ap (λ (r : Reply). (reply_to [] head r).bytes) is)
+    (record { keeps = λ content. refl; served = tt }, all ∙ prefix_is ∙ ap (λ (r : Reply). (reply_to [] head r).bytes) is)
 
 -- what is open has all its bytes
 open_is_whole : {R : Type 0} (left : R → List ℕ) (contents : Contents) (kind : Look) (found : Option (Download R)) (download : Download R) (said : Reply)
@@ -229,13 +229,13 @@ open_is_whole left contents look.Get None download said found opens shows = absu
 open_is_whole left contents look.Head (Some one) download said found opens shows = absurd opens
 open_is_whole left contents look.Head None download said found opens shows = absurd (cc)
 
-module _ {D T W R : Type 0} (devices : Devices D T) (told : Type 0) (left : R → List ℕ) (start now new : SessionView D T W R) (head : Head) (said : Reply) (front : List ℕ)
-    (tells : devices.told → told) (looked : IsLooked devices left start now head said) (front_is : front ≡ (reply_to [] head said).bytes) (draws : new.draws ≡ now.draws) (rests : Rests devices now.core new.core) where
+module _ {D T W R : Type 0} (devices : Devices D T) (told : Type 0) (left : R → List ℕ) (start now new : SessionView D T W R) (head : Head) (said : Reply) (prefix : List ℕ)
+    (tells : devices.told → told) (looked : IsLooked devices left start now head said) (prefix_is : prefix ≡ (reply_to [] head said).bytes) (draws : new.draws ≡ now.draws) (rests : Rests devices now.core new.core) where
   abbrev Is : List ℕ → Type 0
   Is bytes = Answered devices start new (whole head []) (record { bytes = bytes; ends = head.closes })
 
   -- these bytes are the answer
-  looked_answer : (bytes : List ℕ) → Shown told left front now.found bytes → Is bytes
+  looked_answer : (bytes : List ℕ) → Shown told left prefix now.found bytes → Is bytes
   looked_answer bytes shown =
       let looks = looks_by head head.method head.key looked.kind looked.asked in
       record {
@@ -244,16 +244,16 @@ module _ {D T W R : Type 0} (devices : Devices D T) (told : Type 0) (left : R �
         turned = turned_of_one devices start.core now.core new.core looked.moment head [] bytes (call.Get head.key looked.kind looked.moment remote.NotAsked) said
             (record { asked = looks.first looked.moment; plain = looks.plain; begins_none = refl }) looked.called rests
             (λ t table state contents stands.
-            shown_is told left contents head looked.kind now.found said front bytes (tells t) looks.bare looked.opens (looked.shows t table state contents stands) front_is shown);
+            shown_is told left contents head looked.kind now.found said prefix bytes (tells t) looks.bare looked.opens (looked.shows t table state contents stands) prefix_is shown);
       }
 
   -- what was open was given out as far as it could be
   pub given_answer : (download : Download R) (taken taken' : Option (List ℕ)) (result : Result (Unit {0}) Unsaid) → now.found ≡ Some download
-      → SentSome (IsGivenBehind told left front download) taken taken' result → HasGivenCause told left (devices.disk_faults now.core.disk) (devices.disk_faults new.core.disk) download result
+      → SentSome (IsGivenBehind told left prefix download) taken taken' result → HasGivenCause told left (devices.disk_faults now.core.disk) (devices.disk_faults new.core.disk) download result
       → IsAnswered Is (DownloadFails devices start.core new.core) [] taken taken' result
   given_answer download taken taken' result found sent cause =
       answered Is (DownloadFails devices start.core new.core) taken taken' sent.0 result
-      (looked_answer sent.0 (subst (λ (f : Option (Download R)). Shown told left front f sent.0) (sym found) sent.1)) sent.2 fails
+      (looked_answer sent.0 (subst (λ (f : Option (Download R)). Shown told left prefix f sent.0) (sym found) sent.1)) sent.2 fails
     where
       fails : result ≡ Err DownloadFault → DownloadFails devices start.core new.core
       fails e t table =
@@ -266,8 +266,8 @@ module _ {D T W R : Type 0} (devices : Devices D T) (told : Type 0) (left : R �
           )
 
   -- nothing was open
-  pub plain_answer : (taken taken' : Option (List ℕ)) (result : Result (Unit {0}) Unsaid) → now.found ≡ None → Sent taken taken' front result → OnlyWriteFails result
+  pub plain_answer : (taken taken' : Option (List ℕ)) (result : Result (Unit {0}) Unsaid) → now.found ≡ None → Sent taken taken' prefix result → OnlyWriteFails result
       → IsAnswered Is (DownloadFails devices start.core new.core) [] taken taken' result
   plain_answer taken taken' result found sent only =
-      answered_by_sink Is (DownloadFails devices start.core new.core) taken taken' front result
-      (looked_answer front (subst (λ (f : Option (Download R)). Shown told left front f front) (sym found) refl)) sent only
+      answered_by_sink Is (DownloadFails devices start.core new.core) taken taken' prefix result
+      (looked_answer prefix (subst (λ (f : Option (Download R)). Shown told left prefix f prefix) (sym found) refl)) sent only

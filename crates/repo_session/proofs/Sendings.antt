@@ -32,9 +32,9 @@ at_most : (why : Unsaid) (count all : ℕ) → IsShort why count all → count �
 at_most WriteFault count all short = omega (arith, short)
 at_most DownloadFault count all short = short
 
--- a front of the first bytes is one of all
-pub sent_front : (taken taken' : Option (List ℕ)) (bytes more : List ℕ) (why : Unsaid) → Sent taken taken' bytes (Err why) → Sent taken taken' (bytes ++ more) (Err why)
-sent_front taken taken' bytes more why sent = (
+-- a prefix of the first bytes is one of all
+pub sent_prefix : (taken taken' : Option (List ℕ)) (bytes more : List ℕ) (why : Unsaid) → Sent taken taken' bytes (Err why) → Sent taken taken' (bytes ++ more) (Err why)
+sent_prefix taken taken' bytes more why sent = (
   sent.0,
   short_more why sent.0 bytes more sent.1,
   subst (λ (l : List ℕ). Appends taken taken' l) (sym (take-append-le sent.0 bytes more (at_most why sent.0 (length bytes) sent.1))) sent.2,
@@ -50,7 +50,7 @@ sent_behind taken taken' taken'' bytes more (Err why) before sent = (
   subst (λ (l : List ℕ). Appends taken taken'' l) (sym (take-append-add bytes more sent.0)) (appends_both taken taken' taken'' bytes (take sent.0 more) before sent.2),
 )
 
--- an answer of which all was written, or a front
+-- an answer of which all was written, or a prefix
 pub answered : (Is : List ℕ → Type 0) (Fails : Type 0) (taken taken' : Option (List ℕ)) (answer : List ℕ) (result : Result (Unit {0}) Unsaid)
     → Is answer → Sent taken taken' answer result → (result ≡ Err DownloadFault → Fails) → IsAnswered Is Fails [] taken taken' result
 answered Is Fails taken taken' answer (Ok x) is sent fails = (answer, is, sent)

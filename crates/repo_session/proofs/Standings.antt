@@ -77,7 +77,7 @@ module _ {D T : Type 0} (devices : Devices D T) where
   stands_after : (old new : CoreView D T) (s t : State) (contents more : Contents) (said : Reply) → Stands devices old s contents → Tracks devices.tree devices.table new t → Leads s said t
       → (new.broken ≡ None → old.broken ≡ None) → (new.broken ≡ None → BytesStay (devices.tree old.disk) (devices.tree new.disk))
       → ((made : Asset) → said ≡ reply.Stored made → IsHeld (devices.tree new.disk) (contents ++ more) made.blob)
-      → ((blob : BlobRef) → Has (contents ++ more) blob → blob.stamp ≤ t.last)
+      → ((blob : BlobRef) → Has (contents ++ more) blob → blob.timestamp ≤ t.last)
       → Stands devices new t (contents ++ more)
   stands_after old new s t contents more said stands tracks leads back stays made older = record {
     tracks = tracks;
@@ -117,7 +117,7 @@ module _ {D T : Type 0} (devices : Devices D T) where
       (λ blob has.
       elim (has_before contents asset.blob blob content has) [
         | inl was ↦ let before = stands.older blob was in let rising = leads.rising in omega (arith, before, rising)
-        | inr is ↦ subst (λ (b : BlobRef). b.stamp ≤ t.last) is (let at = newest.1 in omega (arith, at))
+        | inr is ↦ subst (λ (b : BlobRef). b.timestamp ≤ t.last) is (let at = newest.1 in omega (arith, at))
       ])
     where
       same_blob : (a b : Asset) → reply.Stored a ≡ reply.Stored b → a.blob ≡ b.blob

@@ -29,9 +29,9 @@ HasFailed told left faults old new (Err WriteFault) = faults old.reader ≤ faul
 HasFailed told left faults old new (Err DownloadFault) =
     (faults old.reader ≤ faults new.reader) × (told → IsWhole left old → Rose (faults old.reader) (faults new.reader))
 
--- the front of a response, and such bytes behind it
+-- the head of a response, and such bytes behind it
 abbrev pub IsGivenBehind : {R : Type 0} → Type 0 → (R → List ℕ) → List ℕ → Download R → List ℕ → Type 0
-IsGivenBehind told left front download bytes = (content : List ℕ) × IsGiven told left download content × (bytes ≡ front ++ content)
+IsGivenBehind told left prefix download bytes = (content : List ℕ) × IsGiven told left download content × (bytes ≡ prefix ++ content)
 
 -- a download fails only where the disk's count rose, or where the file ended too early
 abbrev pub HasGivenCause : {R : Type 0} → Type 0 → (R → List ℕ) → ℕ → ℕ → Download R → Result (Unit {0}) Unsaid → Type 0

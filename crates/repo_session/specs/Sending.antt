@@ -6,7 +6,7 @@ use Rattle.http_front.specs.Replying.{IsShort}
 use Rattle.http_front.specs.declared.unsaid.Unsaid.{Unsaid}
 use Rattle.http_front.specs.declared.unsaid.Unsaid.TheVariants.{WriteFault, DownloadFault}
 
--- all of it, or a front of it: where a write failed, not all
+-- all of it, or a prefix of it: where a write failed, not all
 abbrev pub Sent : Option (List ℕ) → Option (List ℕ) → List ℕ → Result (Unit {0}) Unsaid → Type 0
 Sent taken taken' answer (Ok x) = Appends taken taken' answer
 Sent taken taken' answer (Err why) = (count : ℕ) × IsShort why count (length answer) × Appends taken taken' (take count answer)

@@ -53,12 +53,12 @@ HasTurns devices old new over moments requests written = HasTurnsFrom devices ol
 
 -- So many bytes hold all the answers but the last, which were made by turns that didn't end the session.
 pub record HasTurnsPast {D T : Type 0} (devices : Devices D T) (old : CoreView D T) (moments : List Moment) (requests : List Item) (written : List ℕ) (count : ℕ) : Type 0 where
-  pub front : List Item
+  pub prefix : List Item
   pub last : Item
   pub before : List ℕ
   pub answer : List ℕ
   pub mid : CoreView D T
-  pub requests_are : requests ≡ front ++ last ∷ []
+  pub requests_are : requests ≡ prefix ++ last ∷ []
   pub parts : written ≡ before ++ answer
-  pub made : HasTurns devices old mid false moments front before
+  pub made : HasTurns devices old mid false moments prefix before
   pub past : length before ≤ count

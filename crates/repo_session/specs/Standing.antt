@@ -27,4 +27,4 @@ AreHeld tree rows contents = (key : Key) (asset : Asset) → map.get rows key �
 pub record Stands {D T : Type 0} (devices : Devices D T) (core : CoreView D T) (state : State) (contents : Contents) : Type 0 where
   pub tracks : Tracks devices.tree devices.table core state
   pub held : core.broken ≡ None → AreHeld (devices.tree core.disk) state.rows contents
-  pub older : (blob : BlobRef) → Has contents blob → blob.stamp ≤ state.last
+  pub older : (blob : BlobRef) → Has contents blob → blob.timestamp ≤ state.last

@@ -123,10 +123,10 @@ impl<D: Disk, T: Keeper> Repository for Answering<D, T, D::Writer, D::Reader> {
         said
     }
 
-    fn send<K: Sink>(&mut self, front: &[u8], output: &mut K) -> Result<(), Unsaid> {
+    fn send<K: Sink>(&mut self, prefix: &[u8], output: &mut K) -> Result<(), Unsaid> {
         match self.found.take() {
-            Some(download) => give(&mut self.core, front, download, output),
-            None => write(output, front),
+            Some(download) => give(&mut self.core, prefix, download, output),
+            None => write(output, prefix),
         }
     }
 

@@ -39,20 +39,20 @@ fn read_behind<R: Reader>(
     }
 }
 
-/// Writes the front of a response and the bytes of a download behind it as they come, piece by piece. The first piece has the front.
+/// Writes the head of a response and the bytes of a download behind it as they come, piece by piece. The first piece has the head.
 fn send_pieces<R: Reader, K: Sink>(
-    front: &[u8],
+    prefix: &[u8],
     download: &mut Download<R>,
     output: &mut K,
 ) -> Result<(), Unsaid>
-    requires { length front.now ≤ 1024 }
-    ensures sent { SentSome (IsGivenBehind R.told R.left front.now download.old) (K.taken output.old) (K.taken output.new) result }
+    requires { length prefix.now ≤ 1024 }
+    ensures sent { SentSome (IsGivenBehind R.told R.left prefix.now download.old) (K.taken output.old) (K.taken output.new) result }
     ensures cause { HasSinkCause (K.faults output.old) (K.faults output.new) result }
     ensures failed { HasFailed R.told R.left R.faults download.old download.new result }
 {
     let mut piece = [0; 32_768];
-    let mut at = front.len();
-    piece[..at].copy_from_slice(front);
+    let mut at = prefix.len();
+    piece[..at].copy_from_slice(prefix);
     'pieces: loop {
         match read_behind(download, &mut piece, at) {
             Ok(0) => return write(output, &piece[..at]),
@@ -72,40 +72,40 @@ fn send_pieces<R: Reader, K: Sink>(
     }
 }
 
-/// Writes the front of a response and the bytes of a download. A front that has no place in a piece is written alone.
+/// Writes the head of a response and the bytes of a download. A head that has no place in a piece is written alone.
 fn send_content<R: Reader, K: Sink>(
-    front: &[u8],
+    prefix: &[u8],
     download: &mut Download<R>,
     output: &mut K,
 ) -> Result<(), Unsaid>
-    ensures sent { SentSome (IsGivenBehind R.told R.left front.now download.old) (K.taken output.old) (K.taken output.new) result }
+    ensures sent { SentSome (IsGivenBehind R.told R.left prefix.now download.old) (K.taken output.old) (K.taken output.new) result }
     ensures cause { HasSinkCause (K.faults output.old) (K.faults output.new) result }
     ensures failed { HasFailed R.told R.left R.faults download.old download.new result }
 {
-    if front.len() <= 1_024 {
-        return send_pieces(front, download, output);
+    if prefix.len() <= 1_024 {
+        return send_pieces(prefix, download, output);
     }
-    if let Err(unsaid) = write(output, front) {
+    if let Err(unsaid) = write(output, prefix) {
         return Err(unsaid);
     }
     send_pieces(&[], download, output)
 }
 
-/// Gives a content out behind the front of its response, and ends the download.
+/// Gives a content out behind the head of its response, and ends the download.
 pub(crate) fn give<D: Disk, T: Keeper, K: Sink>(
     core: &mut Core<D, T>,
-    front: &[u8],
+    prefix: &[u8],
     download: Download<D::Reader>,
     output: &mut K,
 ) -> Result<(), Unsaid>
-    ensures sent { SentSome (IsGivenBehind D.Reader.told D.Reader.left front.now download) (K.taken output.old) (K.taken output.new) result }
+    ensures sent { SentSome (IsGivenBehind D.Reader.told D.Reader.left prefix.now download) (K.taken output.old) (K.taken output.new) result }
     ensures cause { HasSinkCause (K.faults output.old) (K.faults output.new) result }
     ensures failed { HasGivenCause D.Reader.told D.Reader.left (D.faults core.old.disk) (D.faults core.new.disk) download result }
     ensures rests { Rests (devices D.Disk T.Keeper) core.old core.new }
     ensures holds { core.new.holds ≡ slice_set core.old.holds 0 None }
 {
     let mut download = download;
-    let sent = send_content(front, &mut download, output);
+    let sent = send_content(prefix, &mut download, output);
     core.end_get(0, download);
     sent
 }

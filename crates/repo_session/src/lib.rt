@@ -12,7 +12,7 @@
 //!
 //! What is promised of [`serve`]: the requests that were read made turns, in their order, whose entries are those by which the
 //! journal grew. Over devices that tell what they hold, each state that they stand for leads on by these turns to one that they stand
-//! for at the end, and what is said in them was written, or a front of it where the sink or a download failed; a content that is given
+//! for at the end, and what is said in them was written, or a prefix of it where the sink or a download failed; a content that is given
 //! out is the very bytes of its file (`HasTurns`, specs/Serving.antt). An end tells of a device only where its count of faults rose.
 #![tactic(auto)]
 

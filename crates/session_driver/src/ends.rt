@@ -60,7 +60,7 @@ pub(crate) fn refuse_head<R: Repository, K: Sink>(
 /// Ends the upload of a session that can't go on behind its head: one without content is put, another one is cut.
 pub(crate) fn give_up<R: Repository>(session: &Session, repository: &mut R)
     ensures elsewhere { is_reading_at session.now.place ≡ false → repository.new ≡ repository.old }
-    ensures inside { (fed : List ℕ) (past : Past) (head : Head) (start : R) → Took session.now fed past → phase_of past ≡ inside head → past.came ≡ [] → session.now.lent ≡ []
+    ensures inside { (fed : List ℕ) (past : Past) (head : Head) (start : R) → Took session.now fed past → phase_of past ≡ inside head → past.came ≡ [] → session.now.borrowed ≡ []
         → is_put head.method ≡ true → R.Uploads start repository.old head [] → (answer : Answer) × R.Answers start repository.new (unread head) (told head answer) }
 {
     if !session.is_inside() {

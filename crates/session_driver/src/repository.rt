@@ -68,8 +68,8 @@ pub trait Repository {
         ensures { (head : Head) → ask_of head head.method ≡ asks.Look key look → Looked self.old self.new head result };
 
     /// Writes the head of a response and, behind it, the content that is open.
-    fn send<K: Sink>(&mut self, front: &[u8], output: &mut K) -> Result<(), Unsaid>
-        ensures said { (start : Self) (head : Head) (reply : Reply) → Looked start self.old head reply → front.now ≡ (reply_to [] head reply).bytes
+    fn send<K: Sink>(&mut self, prefix: &[u8], output: &mut K) -> Result<(), Unsaid>
+        ensures said { (start : Self) (head : Head) (reply : Reply) → Looked start self.old head reply → prefix.now ≡ (reply_to [] head reply).bytes
             → IsAnswered (λ bytes. Answers start self.new (requests.whole head []) (record { bytes = bytes; ends = head.closes })) (Fails start self.new) [] (K.taken output.old) (K.taken output.new) result }
         ensures cause { HasSinkCause (K.faults output.old) (K.faults output.new) result };
 

@@ -77,8 +77,8 @@ impl Repository for Counts {
         Reply::Refused(Refusal::NotFound)
     }
 
-    fn send<K: Sink>(&mut self, front: &[u8], output: &mut K) -> Result<(), Unsaid> {
-        match put_all(output, front) {
+    fn send<K: Sink>(&mut self, prefix: &[u8], output: &mut K) -> Result<(), Unsaid> {
+        match put_all(output, prefix) {
             Ok(()) => Ok(()),
             Err(Failed) => Err(Unsaid::WriteFault),
         }

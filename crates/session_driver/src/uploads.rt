@@ -61,7 +61,7 @@ pub(crate) fn begin_upload<R: Repository, K: Sink>(
     }
 }
 
-/// Takes the content that is lent.
+/// Takes the content that is borrowed.
 pub(crate) fn take_part<R: Repository, K: Sink>(
     session: &mut Session,
     repository: &mut R,
@@ -71,7 +71,7 @@ pub(crate) fn take_part<R: Repository, K: Sink>(
         → StandsInside R.Answers R.Uploads x repository.old session.old taken (K.taken output.old) fed → HasFed session.old left left' ended fed
         → Goes (StandsInside R.Answers R.Uploads x repository.new session.new taken (K.taken output.new)) (EndsSo R.Answers R.Fails x repository.new left left' ended taken (K.taken output.new)) session.new left left' ended result }
     ensures cause { HasWriteCause (K.faults output.old) (K.faults output.new) result }
-    ensures taken { result ≡ None → session.new ≡ record session.old { lent = [] } }
+    ensures taken { result ≡ None → session.new ≡ record session.old { borrowed = [] } }
 {
     match repository.take(session.body()) {
         Ok(()) => {

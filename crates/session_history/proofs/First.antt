@@ -27,8 +27,8 @@ use Rattle.session_history.proofs.Made.{Behind, begun_or, empty_holds, no_conten
 begins_none : (items : List Item) → BeginsWith items []
 begins_none items = (items, refl)
 
-begins_next : (a : Item) (items front : List Item) → BeginsWith items front → BeginsWith (a ∷ items) (a ∷ front)
-begins_next a items front x = (x.0, ap (λ (more : List Item). merged a ∷ more) x.1)
+begins_next : (a : Item) (items prefix : List Item) → BeginsWith items prefix → BeginsWith (a ∷ items) (a ∷ prefix)
+begins_next a items prefix x = (x.0, ap (λ (more : List Item). merged a ∷ more) x.1)
 
 begins_one : (items : List Item) (a : Item) → map merged items ≡ map merged (a ∷ []) → BeginsWith items (a ∷ [])
 begins_one items a x = ([], x)
@@ -160,12 +160,12 @@ alone_held head bytes items e x = whole_held head bytes [] bytes items (empty_ho
 First : Phase → List ℕ → List Mark → List ℕ → Type 0
 First phase bytes marks came = (items : List Item) → Knows phase bytes items → BeginsWith items (requests_in phase marks came)
 
-begins_as : (items front other : List Item) → front ≡ other → BeginsWith items other → BeginsWith items front
-begins_as items front other e x = subst (λ (f : List Item). BeginsWith items f) (sym e) x
+begins_as : (items prefix other : List Item) → prefix ≡ other → BeginsWith items other → BeginsWith items prefix
+begins_as items prefix other e x = subst (λ (f : List Item). BeginsWith items f) (sym e) x
 
 -- the first request is known, and what is behind it begins with the rest
-first_is : (items : List Item) (a : Item) (front : List Item) (more : List Item) → items ≡ a ∷ more → BeginsWith more front → BeginsWith items (a ∷ front)
-first_is items a front more e x = subst (λ (i : List Item). BeginsWith i (a ∷ front)) (sym e) (begins_next a more front x)
+first_is : (items : List Item) (a : Item) (prefix : List Item) (more : List Item) → items ≡ a ∷ more → BeginsWith more prefix → BeginsWith items (a ∷ prefix)
+first_is items a prefix more e x = subst (λ (i : List Item). BeginsWith i (a ∷ prefix)) (sym e) (begins_next a more prefix x)
 
 over_first : (bytes : List ℕ) (marks : List Mark) (came : List ℕ) (items : List Item) → Goes over bytes marks came → BeginsWith items (requests_in over marks came)
 over_first bytes marks came items x = begins_as items (requests_in over marks came) [] (none_over bytes marks came x) (begins_none items)
@@ -174,7 +174,7 @@ over_first bytes marks came items x = begins_as items (requests_in over marks ca
 last_is : (items : List Item) (a : Item) (bytes : List ℕ) (marks : List Mark) (came : List ℕ) → map merged items ≡ map merged (a ∷ []) → Goes over bytes marks came
     → BeginsWith items (a ∷ requests_in over marks came)
 last_is items a bytes marks came e x =
-    begins_as items (a ∷ requests_in over marks came) (a ∷ []) (ap (λ (front : List Item). a ∷ front) (none_over bytes marks came x)) (begins_one items a e)
+    begins_as items (a ∷ requests_in over marks came) (a ∷ []) (ap (λ (prefix : List Item). a ∷ prefix) (none_over bytes marks came x)) (begins_one items a e)
 
 -- what is answered to a request without a content
 replied_first : (head : Head) (bytes rest : List ℕ) (marks : List Mark) (came : List ℕ) (items : List Item) → bytes ≡ rest → is_empty head.framing ≡ true → Held head bytes items

@@ -15,7 +15,7 @@ use Rattle.session_history.specs.Histories.{IsTextOf, Spans, Rests, IsHistory}
 
 -- the mark comes next of the bytes, in front of the rest
 abbrev pub Comes : Phase → Mark → List ℕ → List ℕ → Type 0
-Comes phase mark bytes rest = (front : List ℕ) × (bytes ≡ front ++ rest) × IsTextOf phase mark front
+Comes phase mark bytes rest = (prefix : List ℕ) × (bytes ≡ prefix ++ rest) × IsTextOf phase mark prefix
 
 -- from a phase on the bytes make these marks and no more; of the last content so much came
 abbrev pub Goes : Phase → List ℕ → List Mark → List ℕ → Type 0
@@ -27,9 +27,9 @@ goes : (phase : Phase) (marks : List Mark) (bytes text rest came : List ℕ) →
 goes phase [] bytes text rest came parts none rests =
     let same : bytes ≡ rest = parts ∙ ap (λ (t : List ℕ). t ++ rest) none in
     subst (λ (t : List ℕ). Rests phase t came) (sym same) rests
-goes phase (mark ∷ marks) bytes text rest came parts (front, back, halves, is_text, spans) rests =
-    let here : bytes ≡ front ++ (back ++ rest) = parts ∙ ap (λ (t : List ℕ). t ++ rest) halves ∙ append_assoc front back rest in
-    (back ++ rest, (front, here, is_text), goes (after phase mark) marks (back ++ rest) back rest came refl spans rests)
+goes phase (mark ∷ marks) bytes text rest came parts (prefix, back, halves, is_text, spans) rests =
+    let here : bytes ≡ prefix ++ (back ++ rest) = parts ∙ ap (λ (t : List ℕ). t ++ rest) halves ∙ append_assoc prefix back rest in
+    (back ++ rest, (prefix, here, is_text), goes (after phase mark) marks (back ++ rest) back rest came refl spans rests)
 
 pub of_history : (bytes : List ℕ) (marks : List Mark) (came : List ℕ) → IsHistory bytes marks came → Goes between bytes marks came
 of_history bytes marks came h = goes between marks bytes h.text h.rest came h.parts h.spans h.rests
@@ -54,5 +54,5 @@ pub stops : (head : Head) (bytes rest part : List ℕ) (why : BodyErr) → Comes
 stops head bytes rest part why x = subst (λ (t : List ℕ). HoldsBody head.framing t (stop_of part why)) (sym x.1) (x.2 rest)
 
 -- an answer without a text leaves the bytes
-pub left : (bytes front rest : List ℕ) → bytes ≡ front ++ rest → front ≡ [] → bytes ≡ rest
-left bytes front rest parts none = parts ∙ ap (λ (t : List ℕ). t ++ rest) none
+pub left : (bytes prefix rest : List ℕ) → bytes ≡ prefix ++ rest → prefix ≡ [] → bytes ≡ rest
+left bytes prefix rest parts none = parts ∙ ap (λ (t : List ℕ). t ++ rest) none

@@ -23,9 +23,9 @@ Leads phase bytes (mark ∷ marks) more = (rest : List ℕ) × Comes phase mark 
 -- a text of the marks leads to what follows it
 leads : (phase : Phase) (marks : List Mark) (bytes text more : List ℕ) → bytes ≡ text ++ more → Spans phase marks text → Leads phase bytes marks more
 leads phase [] bytes text more parts none = left bytes text more parts none
-leads phase (mark ∷ marks) bytes text more parts (front, back, halves, is_text, spans) =
-    let here : bytes ≡ front ++ (back ++ more) = parts ∙ ap (λ (t : List ℕ). t ++ more) halves ∙ append_assoc front back more in
-    (back ++ more, (front, here, is_text), leads (after phase mark) marks (back ++ more) back more refl spans)
+leads phase (mark ∷ marks) bytes text more parts (prefix, back, halves, is_text, spans) =
+    let here : bytes ≡ prefix ++ (back ++ more) = parts ∙ ap (λ (t : List ℕ). t ++ more) halves ∙ append_assoc prefix back more in
+    (back ++ more, (prefix, here, is_text), leads (after phase mark) marks (back ++ more) back more refl spans)
 
 -- an ended session doesn't come between requests again
 stays_over : (bytes : List ℕ) (marks : List Mark) (more : List ℕ) → Leads over bytes marks more → after_all over marks ≡ between → ⊥
@@ -70,15 +70,15 @@ replied_has head true bytes rest items ends_inside e same m = absurd m
 replied_has head false bytes rest items ends_inside e same m = inl (e, subst (λ (t : List ℕ). AreRequests t items ends_inside) (sym same) m)
 
 -- the beginning of an upload is answered
-begun_has : (head : Head) (begun closes empty : Bool) (bytes rest : List ℕ) (front items : List Item) (ends_inside : Bool)
-    → head.closes ≡ closes → is_empty head.framing ≡ empty → bytes ≡ rest → Has (begun_or head begun closes empty) rest (front ++ items) ends_inside
-    → OfHead head bytes (((if begun then [] else alone head empty) ++ front) ++ items) ends_inside
-begun_has head true closes empty bytes rest front items ends_inside c e same m =
+begun_has : (head : Head) (begun closes empty : Bool) (bytes rest : List ℕ) (prefix items : List Item) (ends_inside : Bool)
+    → head.closes ≡ closes → is_empty head.framing ≡ empty → bytes ≡ rest → Has (begun_or head begun closes empty) rest (prefix ++ items) ends_inside
+    → OfHead head bytes (((if begun then [] else alone head empty) ++ prefix) ++ items) ends_inside
+begun_has head true closes empty bytes rest prefix items ends_inside c e same m =
     λ stream a. m stream (subst (λ (b : List ℕ). Accepts (drop_blank stream) head b) same a)
-begun_has head false false true bytes rest front items ends_inside c e same m =
-    empty_has head bytes (front ++ items) ends_inside e (replied_has head false bytes rest (front ++ items) ends_inside c same m)
-begun_has head false true empty bytes rest front items ends_inside c e same m = absurd m
-begun_has head false false false bytes rest front items ends_inside c e same m = absurd m
+begun_has head false false true bytes rest prefix items ends_inside c e same m =
+    empty_has head bytes (prefix ++ items) ends_inside e (replied_has head false bytes rest (prefix ++ items) ends_inside c same m)
+begun_has head false true empty bytes rest prefix items ends_inside c e same m = absurd m
+begun_has head false false false bytes rest prefix items ends_inside c e same m = absurd m
 
 -- ---- the marks
 

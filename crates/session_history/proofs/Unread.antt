@@ -37,7 +37,7 @@ open_line = record {
 
 -- so no bytes are a content in chunks that is cut off
 no_chunk : Holds [] (readings.cut [])
-no_chunk = (Line, [], record { front = []; parts = refl; reached = none_yet }, open_line)
+no_chunk = (Line, [], record { prefix = []; parts = refl; reached = none_yet }, open_line)
 
 -- a content that isn't empty is cut off where nothing of it is there
 pub unread_cut : (framing : Framing) → is_empty framing ≡ false → HoldsBody framing [] (readings.cut [])

@@ -27,7 +27,7 @@ IsTextOf phase mark text = ⊥
 abbrev pub Spans : Phase → List Mark → List ℕ → Type 0
 Spans phase [] text = text ≡ []
 Spans phase (mark ∷ marks) text =
-    (front : List ℕ) × (rest : List ℕ) × (text ≡ front ++ rest) × IsTextOf phase mark front × Spans (after phase mark) marks rest
+    (prefix : List ℕ) × (rest : List ℕ) × (text ≡ prefix ++ rest) × IsTextOf phase mark prefix × Spans (after phase mark) marks rest
 
 -- Nothing comes next of the bytes: no head stands in them, or the content isn't whole, of which so much came. In the other phases an
 -- answer comes next, or nothing.

@@ -49,7 +49,7 @@ TellsAll phase (mark ∷ marks) = TellsAll (after phase mark) marks
 
 -- the first of the items are these, up to the choice between the two causes of a head that is none
 abbrev pub BeginsWith : List Item → List Item → Type 0
-BeginsWith items front = (more : List Item) × (map merged items ≡ map merged (front ++ more))
+BeginsWith items prefix = (more : List Item) × (map merged items ≡ map merged (prefix ++ more))
 
 -- the requests that bytes hold begin with those of each of their histories, whatever the answers
 abbrev pub FirstRequests : Type 0

@@ -78,9 +78,9 @@ not_older a e = let turned = age_cmp_total.antisymm a a in let greater : Less �
 pub older_than : (a b c : BlobRef) → age_cmp a b ≡ Less → age_cmp b c ≡ Less → age_cmp a c ≡ Less
 older_than a b c = age_cmp_total.trans a b c
 
--- a blob with a lesser stamp is older
-pub older_by_stamp : (a b : BlobRef) → a.stamp < b.stamp → age_cmp a b ≡ Less
-older_by_stamp a b less = ap (λ (o : Ordering). ordering_then o (ordering_then (name_cmp a.store b.store) (name_cmp a.id b.id))) (sym (nat_cmp_is a.stamp b.stamp Less less))
+-- a blob with a lesser timestamp is older
+pub older_by_timestamp : (a b : BlobRef) → a.timestamp < b.timestamp → age_cmp a b ≡ Less
+older_by_timestamp a b less = ap (λ (o : Ordering). ordering_then o (ordering_then (name_cmp a.store b.store) (name_cmp a.id b.id))) (sym (nat_cmp_is a.timestamp b.timestamp Less less))
 
 module _ (tree : Tree) where
   -- a properties file says one thing of one blob
@@ -93,8 +93,8 @@ module _ (tree : Tree) where
 
   pub blob_same : (a b : BlobRef) (x y : Props) → Reads tree a x → Reads tree b y → SameFiles a b → a ≡ b
   blob_same a b x y p q same =
-      let stamp : a.stamp ≡ b.stamp = sym p.stamp_is ∙ ap (λ (d : Props). d.stamp) (says_same a b x y p q same) ∙ q.stamp_is in
-      λ i. record { store = same.0 i; id = same.1 i; stamp = stamp i }
+      let timestamp : a.timestamp ≡ b.timestamp = sym p.timestamp_is ∙ ap (λ (d : Props). d.timestamp) (says_same a b x y p q same) ∙ q.timestamp_is in
+      λ i. record { store = same.0 i; id = same.1 i; timestamp = timestamp i }
 
   -- a blob is intact or it isn't
   pub intact_or_not : (blob : BlobRef) (props : Props) → Reads tree blob props → IsIntact tree blob props ⊎ (IsIntact tree blob props → ⊥)

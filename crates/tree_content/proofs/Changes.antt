@@ -11,11 +11,11 @@ use Rattle.blob_paths.specs.declared.ending.Ending.{Ending}
 use Rattle.blob_paths.specs.declared.ending.Ending.TheVariants.{Bytes, Properties}
 use Rattle.blob_properties.specs.Props.{Props}
 use Rattle.blob_properties.specs.Readable.{readable_of}
-use Rattle.tree_content.specs.Blobs.{props_name, SameFiles, IsRef, stamped, Homes, Reads, Live, IsInContent}
+use Rattle.tree_content.specs.Blobs.{props_name, SameFiles, IsRef, timestamped, Homes, Reads, Live, IsInContent}
 use Rattle.tree_content.specs.Contents.{Content, content_of, ContentOf, HasContents, SameContents, SameBeside, OldOrNew, OldOrBlob, IsFrom, OldOrLost, IsNoContent, NoneLive, OnlyLive, Contents, with_content}
 use Rattle.tree_content.specs.Files.{RestOfPlace}
 use Rattle.tree_content.proofs.Names.{outside, in_content, same_files, same_or_other}
-use Rattle.tree_content.proofs.Blobs.{key_is, other_key, same_or_other_key, ages, not_older, older_than, older_by_stamp, says_same, blob_same, live_or_not, absent_is_not_live, unreadable_is_not_live}
+use Rattle.tree_content.proofs.Blobs.{key_is, other_key, same_or_other_key, ages, not_older, older_than, older_by_timestamp, says_same, blob_same, live_or_not, absent_is_not_live, unreadable_is_not_live}
 
 -- a key has one content at most
 pub one_content : (homes : Homes) (tree : Tree) (key : Key) (a b : Option Content) → ContentOf homes tree key a → ContentOf homes tree key b → a ≡ b
@@ -40,7 +40,7 @@ module _ (homes : Homes) where
       let whole = live.intact in
       record {
         intact = record {
-          readable = record { named = reads.named; text = reads.text; stands = same Properties ∙ reads.stands; says = reads.says; stamp_is = reads.stamp_is };
+          readable = record { named = reads.named; text = reads.text; stands = same Properties ∙ reads.stands; says = reads.says; timestamp_is = reads.timestamp_is };
           bytes = whole.bytes;
           there = same Bytes ∙ whole.there;
           sized = whole.sized;
@@ -212,8 +212,8 @@ module _ (homes : Homes) where
         by_reading : (read : Option Props) → readable_of text ≡ read → OldOrBlob homes old blob read new
         by_reading None is = kept blob ref old new rest was (unreadable_is_not_live homes new blob text stands is)
         by_reading (Some props) is =
-            let its : IsRef (stamped blob props.stamp) = record { store = ref.store; id = ref.id } in
-            gained (stamped blob props.stamp) its old new rest props was (record { named = its; text = text; stands = stands; says = is; stamp_is = refl })
+            let its : IsRef (timestamped blob props.timestamp) = record { store = ref.store; id = ref.id } in
+            gained (timestamped blob props.timestamp) its old new rest props was (record { named = its; text = text; stands = stands; says = is; timestamp_is = refl })
 
     -- a blob that is no key's content is not live any more: no content changes
     pub forgotten : NoneLive homes new blob → IsNoContent homes old blob → SameContents homes old new
@@ -228,7 +228,7 @@ module _ (homes : Homes) where
         back_blob : (read : Option Props) → OldOrBlob homes new blob read old → ContentOf homes new key content → ContentOf homes old key content
         back_blob None same is = (same key content).0 is
         back_blob (Some props) may is = ⊎_elim (λ had. had)
-            (λ other. absurd (unnamed key (Some (content_of (stamped blob props.stamp) props)) other.1 (refl, refl)))
+            (λ other. absurd (unnamed key (Some (content_of (timestamped blob props.timestamp) props)) other.1 (refl, refl)))
             (may key content is)
 
         back_text : (value : Option (List ℕ)) → old (props_name blob) ≡ value → ContentOf homes new key content → ContentOf homes old key content
@@ -238,17 +238,17 @@ module _ (homes : Homes) where
             by_reading : (read : Option Props) → readable_of text ≡ read → OldOrBlob homes new blob read old
             by_reading None says = kept blob ref new old flipped after (unreadable_is_not_live homes old blob text stands says)
             by_reading (Some props) says =
-                let its : IsRef (stamped blob props.stamp) = record { store = ref.store; id = ref.id } in
-                gained (stamped blob props.stamp) its new old flipped props after (record { named = its; text = text; stands = stands; says = says; stamp_is = refl })
+                let its : IsRef (timestamped blob props.timestamp) = record { store = ref.store; id = ref.id } in
+                gained (timestamped blob props.timestamp) its new old flipped props after (record { named = its; text = text; stands = stands; says = says; timestamp_is = refl })
 
--- a live blob with a greater stamp than all that were live of its key is the key's content
-pub newest_stamp : (homes : Homes) (blob : BlobRef) (ref : IsRef blob) (old new : Tree) (rest : RestOfPlace (place_of blob) old new) (key : Key) (props : Props) → NoneLive homes old blob
-    → Live homes new key blob props → ((other : BlobRef) (d : Props) → Live homes old key other d → other.stamp < blob.stamp)
+-- a live blob with a greater timestamp than all that were live of its key is the key's content
+pub newest_timestamp : (homes : Homes) (blob : BlobRef) (ref : IsRef blob) (old new : Tree) (rest : RestOfPlace (place_of blob) old new) (key : Key) (props : Props) → NoneLive homes old blob
+    → Live homes new key blob props → ((other : BlobRef) (d : Props) → Live homes old key other d → other.timestamp < blob.timestamp)
     → ContentOf homes new key (Some (content_of blob props))
-newest_stamp homes blob ref old new rest key props was live older =
+newest_timestamp homes blob ref old new rest key props was live older =
     subst (λ (k : Key). ContentOf homes new k (Some (content_of blob props))) live.of_key
     (newest homes blob ref old new rest props was live.intact.readable (subst (λ (k : Key). Live homes new k blob props) (sym live.of_key) live)
-    (λ other d before. older_by_stamp other blob (older other d (subst (λ (k : Key). Live homes old k other d) live.of_key before))))
+    (λ other d before. older_by_timestamp other blob (older other d (subst (λ (k : Key). Live homes old k other d) live.of_key before))))
 
 -- a tree whose contents may have changed at one key has the contents before, or with that change
 pub before_or_after : (homes : Homes) (old new : Tree) (key : Key) (changed : Option Content) (contents : Contents) → OldOrNew homes old key changed new → HasContents homes contents old

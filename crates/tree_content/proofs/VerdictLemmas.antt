@@ -9,7 +9,7 @@ use Rattle.blob_properties.specs.Props.{Props}
 use Rattle.blob_properties.specs.Readable.{readable_of}
 use Rattle.blob_properties.specs.declared.found.Verdict.{Verdict}
 use Rattle.blob_properties.specs.declared.found.Verdict.TheVariants.{Intact, Unreadable, NoBytes, WrongSize, WrongSha1}
-use Rattle.tree_content.specs.Blobs.{bytes_name, props_name, stamped, IsRef, IsIntact}
+use Rattle.tree_content.specs.Blobs.{bytes_name, props_name, timestamped, IsRef, IsIntact}
 use Rattle.tree_content.specs.Verdicts.{SaysProps, HasVerdict}
 use Rattle.tree_content.proofs.Blobs.{some_is, none_or_some}
 
@@ -88,13 +88,13 @@ module _ (tree : Tree) (blob : BlobRef) where
   one_verdict Intact WrongSha1 x y = absurd (y.5 (digests x.0 y.0 x.1 y.1 x.2 y.2 x.3 y.3 x.5))
   one_verdict Intact Intact x y = refl
 
-  -- the verdict on the blob of that stamp is Intact just where it is intact
-  pub intact_is : IsRef blob → HasVerdict tree blob Intact ↔ ((props : Props) × IsIntact tree (stamped blob props.stamp) props)
+  -- the verdict on the blob of that timestamp is Intact just where it is intact
+  pub intact_is : IsRef blob → HasVerdict tree blob Intact ↔ ((props : Props) × IsIntact tree (timestamped blob props.timestamp) props)
   intact_is ref = (
     λ v. (
       v.0,
       record {
-        readable = record { named = record { store = ref.store; id = ref.id }; text = v.2.0; stands = v.2.1; says = v.2.2; stamp_is = refl };
+        readable = record { named = record { store = ref.store; id = ref.id }; text = v.2.0; stands = v.2.1; says = v.2.2; timestamp_is = refl };
         bytes = v.1;
         there = v.3;
         sized = v.4;

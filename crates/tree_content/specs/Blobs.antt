@@ -18,18 +18,18 @@ bytes_at place = file_at place Bytes
 abbrev pub props_at : List ℕ → List ℕ
 props_at place = file_at place Properties
 
--- the names of the two files of a blob. Its stamp plays no part in them.
+-- the names of the two files of a blob. Its timestamp plays no part in them.
 abbrev pub bytes_name : BlobRef → List ℕ
 bytes_name blob = bytes_at (place_of blob)
 
 abbrev pub props_name : BlobRef → List ℕ
 props_name blob = props_at (place_of blob)
 
--- the same blob with another stamp: it has the same files
-abbrev pub stamped : BlobRef → ℕ → BlobRef
-stamped blob stamp = record blob { stamp = stamp }
+-- the same blob with another timestamp: it has the same files
+abbrev pub timestamped : BlobRef → ℕ → BlobRef
+timestamped blob timestamp = record blob { timestamp = timestamp }
 
--- the same but for the stamp: the same store, and the same id
+-- the same but for the timestamp: the same store, and the same id
 abbrev pub SameFiles : BlobRef → BlobRef → Type 0
 SameFiles a b = (a.store ≡ b.store) × (a.id ≡ b.id)
 
@@ -50,13 +50,13 @@ IsBlob tree blob = IsRef blob × ((text : List ℕ) × (tree (props_name blob) �
 abbrev pub Homes : Type 0
 Homes = List ℕ → List ℕ → Bool
 
--- a readable blob: its properties file is there, its text can be read, and says the blob's stamp
+-- a readable blob: its properties file is there, its text can be read, and says the blob's timestamp
 pub record Reads (tree : Tree) (blob : BlobRef) (props : Props) : Type 0 where
   pub named : IsRef blob
   pub text : List ℕ
   pub stands : tree (props_name blob) ≡ Some text
   pub says : Readable text props
-  pub stamp_is : props.stamp ≡ blob.stamp
+  pub timestamp_is : props.timestamp ≡ blob.timestamp
 
 -- an intact blob: it is readable, and its bytes file has the size and the SHA-1 that its properties say
 pub record IsIntact (tree : Tree) (blob : BlobRef) (props : Props) : Type 0 where

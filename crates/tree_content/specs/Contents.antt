@@ -7,7 +7,7 @@ use Rattle.nx_base.specs.declared.key.Key.{Key}
 use Rattle.nx_base.specs.declared.blob_ref.BlobRef.{BlobRef}
 use Rattle.disk_model.specs.Disk.{Tree}
 use Rattle.blob_properties.specs.Props.{Props}
-use Rattle.tree_content.specs.Blobs.{Homes, Live, SameFiles, stamped}
+use Rattle.tree_content.specs.Blobs.{Homes, Live, SameFiles, timestamped}
 
 -- what a key has: a blob, with its size and SHA-1
 pub record Content : Type 0 where
@@ -77,7 +77,7 @@ OldOrNew homes old key changed new =
 -- none could be read, each key has what it had, and nothing else
 abbrev pub OldOrBlob : Homes → Tree → BlobRef → Option Props → Tree → Type 0
 OldOrBlob homes old blob None new = SameContents homes old new
-OldOrBlob homes old blob (Some props) new = OldOrNew homes old props.key (Some (content_of (stamped blob props.stamp) props)) new
+OldOrBlob homes old blob (Some props) new = OldOrNew homes old props.key (Some (content_of (timestamped blob props.timestamp) props)) new
 
 -- the content is that of the blob with these files
 abbrev pub IsFrom : BlobRef → Option Content → Type 0

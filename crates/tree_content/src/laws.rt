@@ -12,7 +12,7 @@ ghost use Rattle.blob_properties.specs.Props.{Props};
 ghost use Rattle.blob_properties.specs.Readable.{readable_of};
 ghost use Rattle.blob_properties.specs.declared.found.Verdict.{Verdict};
 ghost use Rattle.blob_properties.specs.declared.found.Verdict.TheVariants.{Intact};
-ghost use Rattle.tree_content.specs.Blobs.{bytes_at, props_at, props_name, stamped, SameFiles, IsRef, IsBlob, Homes, Reads, IsIntact, IsStray, Live, IsInContent};
+ghost use Rattle.tree_content.specs.Blobs.{bytes_at, props_at, props_name, timestamped, SameFiles, IsRef, IsBlob, Homes, Reads, IsIntact, IsStray, Live, IsInContent};
 ghost use Rattle.tree_content.specs.Contents.{Content, content_of, ContentOf, newest_of, AreLive, Contents, HasContents, with_content, SameContents, SameBeside, OldOrNew, OldOrBlob, OldOrLost, IsNoContent, OnlyLive, NoneLive, NamesEachLive};
 ghost use Rattle.tree_content.specs.Verdicts.{HasVerdict};
 ghost use Rattle.tree_content.specs.Files.{RestOfPlace, Creates, Erases, SaysMarked, IsMarkedAt, MarkedOrGone};
@@ -27,7 +27,7 @@ pub fn a_key_has_one_content()
 pub fn a_blob_has_one_verdict()
     ensures some { (tree : Tree) (blob : BlobRef) → IsBlob tree blob → (verdict : Verdict) × HasVerdict tree blob verdict }
     ensures one { (tree : Tree) (blob : BlobRef) (a b : Verdict) → HasVerdict tree blob a → HasVerdict tree blob b → a ≡ b }
-    ensures intact { (tree : Tree) (blob : BlobRef) → IsRef blob → HasVerdict tree blob Intact ↔ ((props : Props) × IsIntact tree (stamped blob props.stamp) props) }
+    ensures intact { (tree : Tree) (blob : BlobRef) → IsRef blob → HasVerdict tree blob Intact ↔ ((props : Props) × IsIntact tree (timestamped blob props.timestamp) props) }
 {}
 
 /// Only the files of blobs play a part in the contents. These stand in the folders `content` of the stores, and none of
@@ -60,7 +60,7 @@ pub fn a_new_blob_is_one_keys_content()
     ensures either { (homes : Homes) (blob : BlobRef) (old new : Tree) (text : List ℕ) → IsRef blob → RestOfPlace (place_of blob) old new → NoneLive homes old blob → new (props_name blob) ≡ Some text
         → OldOrBlob homes old blob (readable_of text) new }
     ensures newest { (homes : Homes) (blob : BlobRef) (old new : Tree) (key : Key) (props : Props) → IsRef blob → RestOfPlace (place_of blob) old new → NoneLive homes old blob → Live homes new key blob props
-        → ((other : BlobRef) (d : Props) → Live homes old key other d → other.stamp < blob.stamp)
+        → ((other : BlobRef) (d : Props) → Live homes old key other d → other.timestamp < blob.timestamp)
         → ContentOf homes new key (Some (content_of blob props)) }
     ensures beside { (homes : Homes) (blob : BlobRef) (old new : Tree) (props : Props) → IsRef blob → RestOfPlace (place_of blob) old new → NoneLive homes old blob → Reads new blob props
         → SameBeside homes props.key old new }

@@ -5,7 +5,7 @@
 //!   properties say; *marked* where they say that it is deleted; a *stray* where its store isn't one of its key's
 //!   repository; and *live* where it is intact, not marked and no stray.
 //! - The *content* of a key is its newest live blob, or nothing where it has none (`specs/Contents.antt`). The newest has
-//!   the greatest stamp, then the greatest store name, then the greatest id.
+//!   the greatest timestamp, then the greatest store name, then the greatest id.
 //! - `specs/Files.antt` has the words on what a call does to the two files of one blob, and on what a crash inside the
 //!   call leaves of them.
 //!

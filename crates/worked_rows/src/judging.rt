@@ -88,7 +88,7 @@ fn blob(alloc: Global, first: bool) -> Result<BlobRef, NameErr> {
     Ok(BlobRef {
         store: StoreName::parse(alloc, b"default")?,
         id: BlobId::parse(b"018bcfe5-6800-7000-8000-000000000000")?,
-        stamp: if first { 1 } else { 2 },
+        timestamp: if first { 1 } else { 2 },
     })
 }
 

@@ -18,7 +18,7 @@ fn blob(alloc: Global, id: &[u8]) -> Result<BlobRef, NameErr> {
     Ok(BlobRef {
         store: StoreName::parse(alloc, b"default")?,
         id: BlobId::parse(id)?,
-        stamp: 1_700_000_000_000,
+        timestamp: 1_700_000_000_000,
     })
 }
 

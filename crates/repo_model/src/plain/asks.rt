@@ -62,7 +62,7 @@ pub(crate) enum Ask {
     Failed(At, u64),
     Delete(At, u64),
     Clean(Rule, u64),
-    /// Of the blob with that stamp.
+    /// Of the blob with that timestamp.
     Remove(u64, u64),
     Reconcile,
     /// A GET of another repository.
@@ -89,7 +89,7 @@ pub(crate) fn store_of(store: In) -> &'static [u8] {
 pub(crate) enum Want {
     Nothing,
     Begun(In),
-    /// The stamp, the size, the times of verification and of the last download.
+    /// The timestamp, the size, the times of verification and of the last download.
     Content(u64, u64, u64, Option<u64>),
     Gone,
     Removed,
@@ -126,11 +126,11 @@ pub(crate) fn look_at(
     })
 }
 
-pub(crate) fn blob(alloc: Global, stamp: u64) -> Result<BlobRef, NameErr> {
+pub(crate) fn blob(alloc: Global, timestamp: u64) -> Result<BlobRef, NameErr> {
     Ok(BlobRef {
         store: StoreName::parse(alloc, b"default")?,
-        id: BlobId::made(stamp.min(LAST), &[0; 10]),
-        stamp,
+        id: BlobId::made(timestamp.min(LAST), &[0; 10]),
+        timestamp,
     })
 }
 
@@ -173,8 +173,8 @@ pub(crate) fn call_of(alloc: Global, ask: Ask) -> Result<Call, NameErr> {
             policy: PolicyName::parse(alloc, policy_of(rule))?,
             now,
         }),
-        Ask::Remove(stamp, now) => {
-            let blob = blob(alloc, stamp)?;
+        Ask::Remove(timestamp, now) => {
+            let blob = blob(alloc, timestamp)?;
             Ok(Call::Remove { blob, now })
         }
         Ask::Reconcile => Ok(Call::Reconcile),
@@ -189,8 +189,8 @@ pub(crate) fn call_of(alloc: Global, ask: Ask) -> Result<Call, NameErr> {
 
 pub(crate) fn shows(asset: &Asset, want: &Want) -> bool {
     match want {
-        Want::Content(stamp, size, verified, downloaded) => {
-            asset.blob.stamp == *stamp
+        Want::Content(timestamp, size, verified, downloaded) => {
+            asset.blob.timestamp == *timestamp
                 && asset.size == *size
                 && asset.verified == *verified
                 && asset.downloaded == *downloaded

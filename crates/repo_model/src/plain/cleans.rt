@@ -41,8 +41,8 @@ fn meets<M: PathPattern + Drop>(
 ) -> Result<bool, NoMemory>
     ensures { IfOk result (λ met. met ≡ matches (criteria_in M.text policy.now) key.now asset.now now) }
 {
-    let used = asset.downloaded.unwrap_or(asset.blob.stamp);
-    if !is_past(policy.age, asset.blob.stamp, now) || !is_past(policy.usage, used, now) {
+    let used = asset.downloaded.unwrap_or(asset.blob.timestamp);
+    if !is_past(policy.age, asset.blob.timestamp, now) || !is_past(policy.usage, used, now) {
         return Ok(false);
     }
     match &policy.path {

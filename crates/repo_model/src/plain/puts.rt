@@ -1,7 +1,7 @@
 ghost use Rattle.std.specs.Prelude.{◌≡◌, ℕ, ◌<◌, ◌^◌, ◌+◌, max, List, IfOk, OnOk, OnErr, if◌then◌else◌};
 ghost use Rattle.nx_base.specs.Given.{given};
 ghost use Rattle.repo_model.specs.State.{row_of};
-ghost use Rattle.repo_model.specs.Stamps.{greatest_time, time_of, next_stamp};
+ghost use Rattle.repo_model.specs.Timestamps.{greatest_time, time_of, next_timestamp};
 ghost use Rattle.repo_model.specs.Deleting.{discarded};
 ghost use Rattle.repo_model.specs.Storing.{with_asset, stored, stored_as};
 ghost use Rattle.repo_model.specs.Step.{on_put};
@@ -49,27 +49,27 @@ fn set_asset(
         id: asset.blob.id,
     };
     state.taken.insert(spot)?;
-    state.last = asset.blob.stamp;
+    state.last = asset.blob.timestamp;
     state
         .rows
         .insert(key.try_clone(alloc)?, asset.try_clone(alloc)?)?;
     Ok(())
 }
 
-/// The stamp of the next blob.
-fn stamp_after(last: u64, now: u64) -> u64
+/// The timestamp of the next blob.
+fn timestamp_after(last: u64, now: u64) -> u64
     requires { last < greatest_time }
-    ensures stamp { result ≡ next_stamp last now }
+    ensures timestamp { result ≡ next_timestamp last now }
     ensures bound { result < 2 ^ 48 }
 {
     time(now).max(last + 1)
 }
 
-/// What a remote has is verified now, and what was put, at its stamp.
-fn verified_at(is_fetched: bool, now: u64, stamp: u64) -> u64
-    ensures { result ≡ (if is_fetched then time_of now else stamp) }
+/// What a remote has is verified now, and what was put, at its timestamp.
+fn verified_at(is_fetched: bool, now: u64, timestamp: u64) -> u64
+    ensures { result ≡ (if is_fetched then time_of now else timestamp) }
 {
-    if is_fetched { time(now) } else { stamp }
+    if is_fetched { time(now) } else { timestamp }
 }
 
 /// Stores a content as that blob, unless its name is taken.
@@ -118,13 +118,13 @@ pub(crate) fn store_new(
     if state.last >= GREATEST_TIME {
         return Ok(Err(Refusal::StampsUsed));
     }
-    let stamp = stamp_after(state.last, moment.now);
+    let timestamp = timestamp_after(state.last, moment.now);
     let blob = BlobRef {
         store: store.try_clone(alloc)?,
-        id: BlobId::made(stamp, &moment.random),
-        stamp,
+        id: BlobId::made(timestamp, &moment.random),
+        timestamp,
     };
-    let verified = verified_at(is_fetched, moment.now, stamp);
+    let verified = verified_at(is_fetched, moment.now, timestamp);
     store_as(alloc, state, upload, moment.now, blob, verified)
 }
 

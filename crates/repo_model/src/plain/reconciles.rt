@@ -36,7 +36,7 @@ fn superseded_blobs(alloc: Global, state: &PlainState) -> Result<Vec<(BlobRef, K
     Ok(list)
 }
 
-/// Moves the blobs into the trash, each deleted at its own stamp.
+/// Moves the blobs into the trash, each deleted at its own timestamp.
 fn discard_all(
     trash: &mut BlobMap<Deletion>,
     loose: &mut BlobMap<Key>,
@@ -47,7 +47,7 @@ fn discard_all(
 {
     for (blob, key) in list {
         loose.remove(&blob);
-        let at = blob.stamp;
+        let at = blob.timestamp;
         trash.insert(blob, Deletion { at, key })?;
     }
     Ok(())

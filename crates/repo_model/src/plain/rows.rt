@@ -22,7 +22,7 @@ const DAY: u64 = 86_400_000;
 
 const WEEK: u64 = 7 * DAY;
 
-/// The id of the stamp T and ten zeros.
+/// The id of the timestamp T and ten zeros.
 const ID: [u8; 16] = [
     0x01, 0x8b, 0xcf, 0xe5, 0x68, 0, 0x70, 0, 0x80, 0, 0, 0, 0, 0, 0, 0,
 ];

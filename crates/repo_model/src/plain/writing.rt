@@ -1,5 +1,5 @@
 ghost use Rattle.std.specs.Prelude.{◌≡◌, ℕ, OnOk};
-ghost use Rattle.repo_model.specs.Stamps.{time_of};
+ghost use Rattle.repo_model.specs.Timestamps.{time_of};
 ghost use Rattle.repo_model.specs.Writing.{bars_put, bars_delete, keeps_row, counted};
 ghost use Rattle.repo_model.specs.Plain.{state_of};
 
@@ -8,7 +8,7 @@ use crate::plain::state::PlainState;
 use nx_base::{Key, NoMemory, Policy, RepoKind, StoreName};
 use std::alloc::Global;
 
-/// The greatest time and the greatest stamp, in milliseconds since 1970.
+/// The greatest time and the greatest timestamp, in milliseconds since 1970.
 pub(crate) const GREATEST_TIME: u64 = 0xffff_ffff_ffff;
 
 /// A moment as the repository takes it.

@@ -2,7 +2,7 @@ use Rattle.std.proofs.Common.{ℕ, List, take, subst, inl, arith}
 use Rattle.httparse.specs.Grammar.{HasNoChunkLine, NeverHasChunkLine, MayBecomeChunkLine}
 use Rattle.httparse.specs.Spans.{IsChunkLineAt}
 use Rattle.http_chunks.specs.Lines.{line_limit}
-use Rattle.http_chunks.proofs.LineLemmas.{line_from_front, length-line, bad_from_never, open_from_front}
+use Rattle.http_chunks.proofs.LineLemmas.{line_from_prefix, length-line, bad_from_never, open_from_prefix}
 use Rattle.http_chunks.proofs.size_line.size_line.Goals as goal
 
 pub returns-in-Ok-Complete : goal.returns-in-Ok-Complete
@@ -10,8 +10,8 @@ returns-in-Ok-Complete c =
     let found = rw c.in-Ok-Complete.field-0-is at c.in-Ok-Complete.ensures.complete in
     let n = c.in-Ok-Complete.length in
     let size = c.in-Ok-Complete.size in
-    let at : IsChunkLineAt (take line_limit c.args.bytes.now) n size found.0 = subst (λ (t : List ℕ). IsChunkLineAt t n size found.0) c.front.ensures found.1 in
-    let line = line_from_front c.args.bytes.now n size found.0 at in
+    let at : IsChunkLineAt (take line_limit c.args.bytes.now) n size found.0 = subst (λ (t : List ℕ). IsChunkLineAt t n size found.0) c.prefix.ensures found.1 in
+    let line = line_from_prefix c.args.bytes.now n size found.0 at in
     let long = length-line c.args.bytes.now _ found.0 line.0 in
     record {
       line = (found.0, line.0, line.1, line.2);
@@ -24,7 +24,7 @@ returns-then-bytes-lt-LINE_LIMIT c =
     let none = rw c.in-Ok-Partial.field-0-is at c.in-Ok-Partial.ensures.partial in
     let may = rw c.in-Ok-Partial.field-0-is at c.in-Ok-Partial.ensures.unfinished in
     record {
-      line = open_from_front c.args.bytes.now c.if-bytes-lt-LINE_LIMIT.true (subst HasNoChunkLine c.front.ensures none) (subst MayBecomeChunkLine c.front.ensures may);
+      line = open_from_prefix c.args.bytes.now c.if-bytes-lt-LINE_LIMIT.true (subst HasNoChunkLine c.prefix.ensures none) (subst MayBecomeChunkLine c.prefix.ensures may);
       within = tt;
     }
 
@@ -33,9 +33,9 @@ unfolding line_limit
 returns-else-bytes-lt-LINE_LIMIT c =
     let none = rw c.in-Ok-Partial.field-0-is at c.in-Ok-Partial.ensures.partial in
     record {
-      line = (subst HasNoChunkLine c.front.ensures none, inl c.if-bytes-lt-LINE_LIMIT.false);
+      line = (subst HasNoChunkLine c.prefix.ensures none, inl c.if-bytes-lt-LINE_LIMIT.false);
       within = tt;
     }
 
 pub returns-in-Err : goal.returns-in-Err
-returns-in-Err c = record { line = bad_from_never c.args.bytes.now (subst NeverHasChunkLine c.front.ensures c.in-Err.ensures.invalid); within = tt }
+returns-in-Err c = record { line = bad_from_never c.args.bytes.now (subst NeverHasChunkLine c.prefix.ensures c.in-Err.ensures.invalid); within = tt }

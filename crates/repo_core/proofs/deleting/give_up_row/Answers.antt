@@ -12,7 +12,7 @@ use Rattle.asset_keeper.specs.declared.change.Change.TheVariants as change
 use Rattle.repo_model.specs.declared.call.Call.TheVariants as call
 use Rattle.repo_model.specs.declared.reply.Reply.TheVariants as reply
 use Rattle.repo_model.specs.Plain.{config_of}
-use Rattle.repo_model.specs.Stamps.{time_of}
+use Rattle.repo_model.specs.Timestamps.{time_of}
 use Rattle.repo_model.specs.Deleting.{without_row, discarded}
 use Rattle.tree_content.specs.Blobs.{props_at}
 use Rattle.repo_model.specs.declared.reply.Fault.{Fault}

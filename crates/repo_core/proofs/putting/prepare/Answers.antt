@@ -4,9 +4,9 @@ use Rattle.std.specs.Option.{option_copied}
 use Rattle.nx_base.specs.declared.asset.Asset.{Asset}
 use Rattle.repo_core.specs.Puts.{IsNext, MayReplace}
 use Rattle.repo_core.proofs.Puttings.{may_not_replace, no_next, prepared}
-use Rattle.repo_core.proofs.Whys.{no_stamp, on_ok, unstaged_puts}
+use Rattle.repo_core.proofs.Whys.{no_timestamp, on_ok, unstaged_puts}
 use Rattle.repo_core.proofs.Texts.{olds_are_there}
-use Rattle.repo_core.proofs.Keepings.{put_stamped, put_trashed}
+use Rattle.repo_core.proofs.Keepings.{put_timestamped, put_trashed}
 use Rattle.repo_core.proofs.putting.prepare.Goals as goal
 
 pub returns-in-Err-clause-ready : goal.returns-in-Err-clause-ready
@@ -34,7 +34,7 @@ returns-in-Err-clause-why g c = c.in-Err.ensures.why c.args.own.now.last c.args.
 
 pub returns-in-Err-next_blob-clause-why : goal.returns-in-Err-next_blob-clause-why
 returns-in-Err-next_blob-clause-why g c =
-    no_stamp (config_of c.args.config.now) c.args.own.now.last c.args.upload.now.key c.args.moment.now (g.T.Keeper.found c.row_to_replace.new.table) (g.D.Disk.last_look c.args.disk.now)
+    no_timestamp (config_of c.args.config.now) c.args.own.now.last c.args.upload.now.key c.args.moment.now (g.T.Keeper.found c.row_to_replace.new.table) (g.D.Disk.last_look c.args.disk.now)
     c.args.store.now c.in-Err-next_blob.why c.in-Ok.ensures.free c.in-Err-next_blob.ensures
 
 pub returns-clause-why : goal.returns-clause-why
@@ -53,6 +53,6 @@ pub returns-clause-keeps : goal.returns-clause-keeps
 returns-clause-keeps g c =
     put_trashed c.args.own.now c.stage_put.new.own c.args.upload.now.key c.args.moment.now c.time-at.result (option_copied c.as_ref.result) c.stage_put.result c.time-at.ensures c.stage_put.ensures.trash
 
-pub returns-clause-stamp : goal.returns-clause-stamp
-returns-clause-stamp g c =
-    put_stamped c.args.store.now c.args.own.now.last c.args.moment.now c.args.upload.now c.in-Ok-next_blob.blob c.stage_put.result c.in-Ok-next_blob.ensures.0 c.stage_put.ensures.new
+pub returns-clause-timestamp : goal.returns-clause-timestamp
+returns-clause-timestamp g c =
+    put_timestamped c.args.store.now c.args.own.now.last c.args.moment.now c.args.upload.now c.in-Ok-next_blob.blob c.stage_put.result c.in-Ok-next_blob.ensures.0 c.stage_put.ensures.new

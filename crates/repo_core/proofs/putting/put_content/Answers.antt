@@ -10,7 +10,7 @@ use Rattle.asset_keeper.specs.Told.{Tells}
 use Rattle.asset_keeper.specs.declared.change.Change.{Change}
 use Rattle.asset_keeper.specs.declared.change.Change.TheVariants as change
 use Rattle.repo_model.specs.Plain.{config_of}
-use Rattle.repo_model.specs.Stamps.{time_of}
+use Rattle.repo_model.specs.Timestamps.{time_of}
 use Rattle.blob_paths.specs.declared.ending.Ending.TheVariants.{Bytes}
 use Rattle.tree_content.specs.Blobs.{bytes_at, props_at, bytes_name}
 use Rattle.tree_content.proofs.Names.{outside}
@@ -328,7 +328,7 @@ row_or_none o a some none = let e : Some a ≡ None = sym some ∙ none in cc
 pub returns-in_default-mark-clause-says : goal.returns-in_default-mark-clause-says
 returns-in_default-mark-clause-says g c = λ told.
     let new = c.in-Ok.staged.new in
-    has_props (g.D.Disk.tree c.show_new.new.disk) new (props_of c.args.upload.now new.asset.blob.stamp) c.in-Ok.ensures.placed c.in-Ok.ensures.says (c.in_default.ensures.props told)
+    has_props (g.D.Disk.tree c.show_new.new.disk) new (props_of c.args.upload.now new.asset.blob.timestamp) c.in-Ok.ensures.placed c.in-Ok.ensures.says (c.in_default.ensures.props told)
 
 pub returns-in_default-mark-clause-marked : goal.returns-in_default-mark-clause-marked
 returns-in_default-mark-clause-marked g c = λ told some may are s old a row.
@@ -345,7 +345,7 @@ pub returns-in-Ok-place-clause-says : goal.returns-in-Ok-place-clause-says
 returns-in-Ok-place-clause-says g c = λ told.
     let tree = g.D.Disk.tree in
     let new = c.in-Ok.staged.new in
-    let props = props_of c.args.upload.now new.asset.blob.stamp in
+    let props = props_of c.args.upload.now new.asset.blob.timestamp in
     still_has_props (tree c.args.disk.now) (tree c.show_new.new.disk) (tree c.place.new.disk) new props c.in-Some.mark c.in-Ok.ensures.placed (c.in-Ok.ensures.free told)
     (subst (λ (m : Option (Mark _)). HasOld (tree c.args.disk.now) m) c.in-Some.is (c.in-Ok.ensures.old told)) (c.place.ensures.rest told)
     (has_props (tree c.show_new.new.disk) new props c.in-Ok.ensures.placed c.in-Ok.ensures.says (c.in_default.ensures.props told))
@@ -474,16 +474,16 @@ pub returns-in-Err-clause-keeps : goal.returns-in-Err-clause-keeps
 returns-in-Err-clause-keeps g c = λ made. absurd (true≢false made)
 
 pub returns-in-Err-show_new-clause-keeps : goal.returns-in-Err-show_new-clause-keeps
-returns-in-Err-show_new-clause-keeps g c = λ made. (c.prepare.new.own, c.in-Ok.ensures.keeps, ap (λ (n : ℕ). record c.prepare.new.own { last = n }) c.in-Ok.ensures.stamp)
+returns-in-Err-show_new-clause-keeps g c = λ made. (c.prepare.new.own, c.in-Ok.ensures.keeps, ap (λ (n : ℕ). record c.prepare.new.own { last = n }) c.in-Ok.ensures.timestamp)
 
 pub returns-in_default-mark-clause-keeps : goal.returns-in_default-mark-clause-keeps
-returns-in_default-mark-clause-keeps g c = λ made. (c.prepare.new.own, c.in-Ok.ensures.keeps, ap (λ (n : ℕ). record c.prepare.new.own { last = n }) c.in-Ok.ensures.stamp)
+returns-in_default-mark-clause-keeps g c = λ made. (c.prepare.new.own, c.in-Ok.ensures.keeps, ap (λ (n : ℕ). record c.prepare.new.own { last = n }) c.in-Ok.ensures.timestamp)
 
 pub returns-in-Ok-place-clause-keeps : goal.returns-in-Ok-place-clause-keeps
-returns-in-Ok-place-clause-keeps g c = λ made. (c.prepare.new.own, c.in-Ok.ensures.keeps, ap (λ (n : ℕ). record c.prepare.new.own { last = n }) c.in-Ok.ensures.stamp)
+returns-in-Ok-place-clause-keeps g c = λ made. (c.prepare.new.own, c.in-Ok.ensures.keeps, ap (λ (n : ℕ). record c.prepare.new.own { last = n }) c.in-Ok.ensures.timestamp)
 
 pub returns-clause-keeps : goal.returns-clause-keeps
-returns-clause-keeps g c = λ made. (c.prepare.new.own, c.in-Ok.ensures.keeps, ap (λ (n : ℕ). record c.prepare.new.own { last = n }) c.in-Ok.ensures.stamp)
+returns-clause-keeps g c = λ made. (c.prepare.new.own, c.in-Ok.ensures.keeps, ap (λ (n : ℕ). record c.prepare.new.own { last = n }) c.in-Ok.ensures.timestamp)
 
 pub returns-in_default-mark-clause-clean_rows : goal.returns-in_default-mark-clause-clean_rows
 returns-in_default-mark-clause-clean_rows g c =

@@ -30,4 +30,4 @@ returns-in-Ok-trash_old-clause-sets g c = (_, c.in-Ok.ensures.made.change_is)
 
 pub returns-in-Ok-trash_old-clause-says : goal.returns-in-Ok-trash_old-clause-says
 returns-in-Ok-trash_old-clause-says g c =
-    subst (λ (x : Asset). Readable c.in-Ok.new.text.items (props_of c.args.upload.now x.blob.stamp)) (sym c.in-Ok.ensures.made.asset_is) c.in-Ok.ensures.made.says
+    subst (λ (x : Asset). Readable c.in-Ok.new.text.items (props_of c.args.upload.now x.blob.timestamp)) (sym c.in-Ok.ensures.made.asset_is) c.in-Ok.ensures.made.says

@@ -20,4 +20,4 @@ returns-in-Some-clause-goes g c = λ x left left' ended taken fed h k.
     let took : Took u fed past = subst (λ (v : SessionView). Took v fed past) (sym same) h.took in
     let phase = inside_phase g.R.Repository.Answers g.R.Repository.Uploads g.R.Repository.Fails x c.args.repository.now c.args.repository.now c.args.session.now u fed left left' ended taken (g.K.Sink.taken c.args.output.now)
     (g.K.Sink.taken c.say_and_go_on.new.output) h k begun in
-    c.give_up.ensures.inside fed past h.head h.start took phase refl (ap (λ (v : SessionView). v.lent) same ∙ h.lent) h.put (h.became.0 begun))
+    c.give_up.ensures.inside fed past h.head h.start took phase refl (ap (λ (v : SessionView). v.borrowed) same ∙ h.borrowed) h.put (h.became.0 begun))

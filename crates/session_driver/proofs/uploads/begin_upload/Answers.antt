@@ -9,7 +9,7 @@ returns-in-Ok-clause-goes g c = λ x left left' ended taken fed head h k asks.
     let is = begin_put head c.args.begin asks in
     let due = awaits_begin h.before head h.answered.phase is.0 in
     let took = c.answer.ensures.answered fed (with_mark (accepted head) h.before) h.took due in
-    let none = c.answer.ensures.none_lent fed (with_mark (accepted head) h.before) h.took due in
+    let none = c.answer.ensures.none_borrowed fed (with_mark (accepted head) h.before) h.took due in
     c.answer_begun.ensures.goes x left left' ended taken fed
     (is_replied g.R.Repository.Answers g.R.Repository.Uploads g.R.Repository.Fails x c.args.repository.now c.begin.new.self c.args.session.now c.answer.new.self fed head c.in-Ok.reply taken (g.K.Sink.taken c.args.output.now) h is.0 took none
     (c.in-Ok.ensures head is.1 is.0))

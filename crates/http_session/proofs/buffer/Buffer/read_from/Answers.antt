@@ -1,7 +1,7 @@
 use Rattle.std.proofs.Common.{◌≡◌, ◌≤◌, ◌<◌, ◌∙◌, ◌++◌, ap, sym, take, drop, arith, ◌-◌, ◌+◌, length, ℕ, List, [], append-nil}
 use Rattle.std.proofs.lemmas.List.{length-take-le, length-drop, with_items_is}
 use Rattle.std.proofs.KnownBytes.{Consumes-nil, Consumes-kept}
-use Rattle.http_session.proofs.Buffers.{fed_front, same, held_len}
+use Rattle.http_session.proofs.Buffers.{fed_prefix, same, held_len}
 use Rattle.http_session.proofs.Sources.{told_end}
 use borrow.Rule.Slice.PartMut.{put_mid}
 use Rattle.http_session.proofs.buffer.Buffer.read_from.Goals as goal
@@ -23,7 +23,7 @@ returns-in_default-clause-reads g c =
     let len : length part ≡ n = c.read.auto.buf ∙ ap (λ (j : ℕ). length (take j (drop (st + k) xs))) wide ∙ length-take-le n (drop (st + k) xs) (omega (arith, length-drop (st + k) xs, fits)) in (
       Consumes-kept (g.S.Source.left c.args.input.now) (g.S.Source.left c.args.input.now) (g.S.Source.left c.read.new.self) [] (Consumes-nil (g.S.Source.left c.args.input.now)) c.in_default.ensures.bytes,
       ap (λ (t : List ℕ). take ((st + k) - st) (drop st t)) (with_items_is v (put_mid (st + k) ((st + k) + n - (st + k)) xs part) (same xs part (st + k) n fits len ∙ ap length was ∙ sym v.ok.0))
-          ∙ fed_front xs part st (st + k) n 0 ((st + k) - st) (omega arith) fits len (omega arith) (omega arith)
+          ∙ fed_prefix xs part st (st + k) n 0 ((st + k) - st) (omega arith) fits len (omega arith) (omega arith)
           ∙ append-nil (take ((st + k) - st) (drop st xs))
           ∙ ap (λ (t : List ℕ). take ((st + k) - st) (drop st t)) was
           ∙ ap (λ (j : ℕ). take j (drop st v.items)) (omega arith)
@@ -55,7 +55,7 @@ returns-clause-reads g c =
       omega (arith, few, c.min-room.ensures),
       c.in-Ok.ensures.bytes.0,
       ap (λ (t : List ℕ). take ((st + k) + m - st) (drop st t)) (with_items_is v (put_mid (st + k) ((st + k) + n - (st + k)) xs part) (same xs part (st + k) n fits len ∙ ap length was ∙ sym v.ok.0))
-          ∙ fed_front xs part st (st + k) n m ((st + k) + m - st) (omega arith) fits len few (omega arith)
+          ∙ fed_prefix xs part st (st + k) n m ((st + k) + m - st) (omega arith) fits len few (omega arith)
           ∙ ap (λ (t : List ℕ). take ((st + k) - st) (drop st t) ++ take m part) was
           ∙ ap (λ (j : ℕ). take j (drop st v.items) ++ take m part) back
           ∙ ap (λ (t : List ℕ). t ++ take m part) (c.make_room-start.ensures.kept ∙ c.self.view_is),

@@ -6,7 +6,7 @@ use Rattle.session_history.specs.Phases.{is_begun}
 use Rattle.http_session.specs.declared.place.Place.TheVariants as places
 use Rattle.http_session.specs.Views.{SessionView, awaits_at}
 use Rattle.http_session.specs.Taken.{Took, with_mark}
-use Rattle.http_session.proofs.Replied.{replied_asked, replied_putting, begun, begin_denied, none_lent}
+use Rattle.http_session.proofs.Replied.{replied_asked, replied_putting, begun, begin_denied, none_borrowed}
 use Rattle.http_session.proofs.session.Session.answer.Goals as goal
 
 pub returns-in-Asked-clause-answered : goal.returns-in-Asked-clause-answered
@@ -52,14 +52,14 @@ returns-in_default-clause-answered c fed past took due =
     subst (λ (v : SessionView). Took v fed (with_mark (replied c.args.reply.now) past)) (sym c.say_reply-in_default.ensures)
     (begin_denied s fed past c.in-Beginning.framing c.in-Beginning.expects c.in-Beginning.closes c.ends_unread-ends.result c.args.reply.now in_place quiet (no_begun c.args.reply.now c.in_default.not-Begun) c.ends_unread-ends.ensures took)
 
-pub returns-in-Asked-clause-none_lent : goal.returns-in-Asked-clause-none_lent
-returns-in-Asked-clause-none_lent c fed past took due = none_lent c.args.self.now c.say_reply.new.self fed past (ap (λ (v : SessionView). v.lent) c.say_reply.ensures) took due
+pub returns-in-Asked-clause-none_borrowed : goal.returns-in-Asked-clause-none_borrowed
+returns-in-Asked-clause-none_borrowed c fed past took due = none_borrowed c.args.self.now c.say_reply.new.self fed past (ap (λ (v : SessionView). v.borrowed) c.say_reply.ensures) took due
 
-pub returns-in-Putting-clause-none_lent : goal.returns-in-Putting-clause-none_lent
-returns-in-Putting-clause-none_lent c fed past took due = none_lent c.args.self.now c.say_reply-in-Putting.new.self fed past (ap (λ (v : SessionView). v.lent) c.say_reply-in-Putting.ensures) took due
+pub returns-in-Putting-clause-none_borrowed : goal.returns-in-Putting-clause-none_borrowed
+returns-in-Putting-clause-none_borrowed c fed past took due = none_borrowed c.args.self.now c.say_reply-in-Putting.new.self fed past (ap (λ (v : SessionView). v.borrowed) c.say_reply-in-Putting.ensures) took due
 
-pub returns-in_default-clause-none_lent : goal.returns-in_default-clause-none_lent
-returns-in_default-clause-none_lent c fed past took due = none_lent c.args.self.now c.say_reply-in_default.new.self fed past (ap (λ (v : SessionView). v.lent) c.say_reply-in_default.ensures) took due
+pub returns-in_default-clause-none_borrowed : goal.returns-in_default-clause-none_borrowed
+returns-in_default-clause-none_borrowed c fed past took due = none_borrowed c.args.self.now c.say_reply-in_default.new.self fed past (ap (λ (v : SessionView). v.borrowed) c.say_reply-in_default.ensures) took due
 
-pub returns-in-Begun-clause-none_lent : goal.returns-in-Begun-clause-none_lent
-returns-in-Begun-clause-none_lent c fed past took due = none_lent c.args.self.now c.go_on.new.self fed past (ap (λ (v : SessionView). v.lent) c.go_on.ensures.2) took due
+pub returns-in-Begun-clause-none_borrowed : goal.returns-in-Begun-clause-none_borrowed
+returns-in-Begun-clause-none_borrowed c fed past took due = none_borrowed c.args.self.now c.go_on.new.self fed past (ap (λ (v : SessionView). v.borrowed) c.go_on.ensures.2) took due

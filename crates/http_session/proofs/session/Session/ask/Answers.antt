@@ -26,7 +26,7 @@ returns-clause-gives c fed past took =
     record {
       mark = accepted head;
       asked = subst (λ (p : Phase). ask_at p (accepted head) ≡ Some c.ask_of.result) (sym h.0) (ap Some (sym c.ask_of.ensures));
-      lent = h.1;
+      borrowed = h.1;
       took = subst (λ (v : SessionView). Took v fed (with_mark (accepted head) past)) (sym is) h.2;
     }
 

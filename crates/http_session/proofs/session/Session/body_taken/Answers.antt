@@ -3,15 +3,15 @@ use Rattle.http_session.specs.Views.{SessionView}
 use Rattle.http_session.specs.Taken.{Past, StandsAt, phase_of, Took}
 use Rattle.http_session.proofs.session.Session.body_taken.Goals as goal
 
--- what was lent belongs to the part that was taken
-lent_taken : (s : SessionView) (fed : List ℕ) (past : Past) → Took s fed past → Took (record s { lent = [] }) fed (record past { came = past.came ++ s.lent })
-lent_taken s fed past t = record {
+-- what was borrowed belongs to the part that was taken
+borrowed_taken : (s : SessionView) (fed : List ℕ) (past : Past) → Took s fed past → Took (record s { borrowed = [] }) fed (record past { came = past.came ++ s.borrowed })
+borrowed_taken s fed past t = record {
   text = t.text;
-  part = t.part ++ s.lent;
-  parts = t.parts ∙ ap (λ (l : List ℕ). t.text ++ l) (sym (append_assoc t.part s.lent s.held));
+  part = t.part ++ s.borrowed;
+  parts = t.parts ∙ ap (λ (l : List ℕ). t.text ++ l) (sym (append_assoc t.part s.borrowed s.held));
   spans = t.spans;
-  stands = subst (λ (l : List ℕ). StandsAt (phase_of past) s.place l ((past.came ++ s.lent) ++ [])) (sym (append-nil (t.part ++ s.lent)))
-      (subst (λ (l : List ℕ). StandsAt (phase_of past) s.place (t.part ++ s.lent) l) (sym (append-nil (past.came ++ s.lent))) t.stands);
+  stands = subst (λ (l : List ℕ). StandsAt (phase_of past) s.place l ((past.came ++ s.borrowed) ++ [])) (sym (append-nil (t.part ++ s.borrowed)))
+      (subst (λ (l : List ℕ). StandsAt (phase_of past) s.place (t.part ++ s.borrowed) l) (sym (append-nil (past.came ++ s.borrowed))) t.stands);
   said = t.said;
   count = t.count;
   longer = t.longer;
@@ -20,4 +20,4 @@ lent_taken s fed past t = record {
 pub returns-clause-taken : goal.returns-clause-taken
 returns-clause-taken c fed past took =
     let s = c.args.self.now in
-    subst (λ (v : SessionView). Took v fed (record past { came = past.came ++ s.lent })) (sym c.drop_lent.ensures) (lent_taken s fed past took)
+    subst (λ (v : SessionView). Took v fed (record past { came = past.came ++ s.borrowed })) (sym c.drop_borrowed.ensures) (borrowed_taken s fed past took)

@@ -15,8 +15,8 @@ use Rattle.http_session.specs.Bodies.{IsReading}
 use Rattle.http_session.specs.Views.{SessionView}
 use Rattle.http_session.specs.Taken.{with_mark, Took, reads, is_inside}
 use Rattle.http_session.specs.Steps.{IsStill, Gives, Progresses, wait_step}
-use Rattle.http_session.proofs.Parts.{in_content, framing_taken, content_lent, content_whole, content_spoiled, content_waits}
-use Rattle.http_session.proofs.Progress.{along, changed, steps_on, waits_without_head, front_shrinks, lent_shrinks, all_shrinks}
+use Rattle.http_session.proofs.Parts.{in_content, framing_taken, content_borrowed, content_whole, content_spoiled, content_waits}
+use Rattle.http_session.proofs.Progress.{along, changed, steps_on, waits_without_head, prefix_shrinks, borrowed_shrinks, all_shrinks}
 use Rattle.http_session.proofs.Waits.{waits_for_content}
 use Rattle.http_session.proofs.session.Session.next_content.Goals as goal
 
@@ -32,10 +32,10 @@ pieces-preserved c =
           (framing_taken s fed past c.pieces.body new c.args.closes n inv.place inv.none
           (λ framing part came r. subst (λ (h : List ℕ). IsReading framing new (part ++ take n h) came) c.held.ensures.held (c.in-Framing.ensures.reads framing part came r))
           (inv.took fed past t));
-      none = ap (λ (v : SessionView). v.lent) is ∙ inv.none;
+      none = ap (λ (v : SessionView). v.borrowed) is ∙ inv.none;
       quiet = ap (λ (v : SessionView). v.out) is ∙ inv.quiet;
       place = ap (λ (v : SessionView). v.place) is;
-      shrinks = along c.args.self.now s c.take_framing.new.self inv.shrinks (front_shrinks s c.take_framing.new.self n (places.Inside new c.args.closes) is);
+      shrinks = along c.args.self.now s c.take_framing.new.self inv.shrinks (prefix_shrinks s c.take_framing.new.self n (places.Inside new c.args.closes) is);
     }
 
 pub returns-in-Content-clause-gives : goal.returns-in-Content-clause-gives
@@ -48,12 +48,12 @@ returns-in-Content-clause-gives c fed past took =
     let x = in_content s fed past c.pieces.body c.args.closes inv.place inv.none t in
     let within = c.in-Content.ensures.within in
     let few : length (take n s.held) ≡ n = length-take-le n s.held (omega (arith, within.1, ap length c.held.ensures.held)) in
-    let lent : Took c.lend_content.new.self fed past =
+    let borrowed : Took c.lend_content.new.self fed past =
     subst (λ (v : SessionView). Took v fed past) (sym c.lend_content.ensures.new)
-    (content_lent s fed past c.pieces.body new c.args.closes n inv.place inv.none
+    (content_borrowed s fed past c.pieces.body new c.args.closes n inv.place inv.none
     (λ framing part came r. subst (λ (h : List ℕ). IsReading framing new (part ++ take n h) (came ++ take n h)) c.held.ensures.held (c.in-Content.ensures.reads framing part came r)) t) in
     subst (λ (g : Step). Gives fed past c.lend_content.new.self g) (sym c.lend_content.ensures.step)
-    (lent, ap is_inside x.phase, within.0, sym few ∙ sym (ap (λ (v : SessionView). length v.lent) c.lend_content.ensures.new), ap (λ (v : SessionView). v.out) c.lend_content.ensures.new ∙ inv.quiet)
+    (borrowed, ap is_inside x.phase, within.0, sym few ∙ sym (ap (λ (v : SessionView). length v.borrowed) c.lend_content.ensures.new), ap (λ (v : SessionView). v.out) c.lend_content.ensures.new ∙ inv.quiet)
 
 pub returns-in-Whole-clause-gives : goal.returns-in-Whole-clause-gives
 returns-in-Whole-clause-gives c fed past took =
@@ -63,7 +63,7 @@ returns-in-Whole-clause-gives c fed past took =
     record {
       mark = content past.came;
       asked = subst (λ (p : Phase). ask_at p (content past.came) ≡ Some asks.Commit) (sym h.1) refl;
-      lent = refl;
+      borrowed = refl;
       took = subst (λ (v : SessionView). Took v fed (with_mark (content past.came) past)) (sym c.stand_at.ensures) h.2;
     }
 
@@ -79,7 +79,7 @@ returns-in-Bad-clause-gives c fed past took =
     (record {
       mark = spoiled past.came why;
       asked = subst (λ (p : Phase). ask_at p (spoiled past.came why) ≡ Some asks.Abort) (sym h.1) refl;
-      lent = refl;
+      borrowed = refl;
       took = subst (λ (v : SessionView). Took v fed (with_mark (spoiled past.came why) past)) (sym c.spoil.ensures.new) h.2;
     })
 
@@ -103,7 +103,7 @@ returns-in-Content-clause-progresses c =
     let new = c.lend_content.new.self in
     let le : n ≤ length s.held = omega (arith, c.in-Content.ensures.within.1, ap length c.held.ensures.held) in
     subst (λ (g : Step). Progresses old new g) (sym c.lend_content.ensures.step)
-    (steps_on old new (steps.Body n) refl (along old s new c.pieces.invariant.shrinks (lent_shrinks s new n (places.Inside c.next.new.self c.args.closes) le c.lend_content.ensures.new)))
+    (steps_on old new (steps.Body n) refl (along old s new c.pieces.invariant.shrinks (borrowed_shrinks s new n (places.Inside c.next.new.self c.args.closes) le c.lend_content.ensures.new)))
 
 pub returns-in-Whole-clause-progresses : goal.returns-in-Whole-clause-progresses
 returns-in-Whole-clause-progresses c =
@@ -111,7 +111,7 @@ returns-in-Whole-clause-progresses c =
     let old = c.args.self.now in
     let new = c.stand_at.new.self in
     steps_on old new (steps.Ask asks.Commit) refl
-    (along old s new c.pieces.invariant.shrinks (changed s new s.lent s.held s.out (places.Putting c.args.closes) c.stand_at.ensures (omega arith)))
+    (along old s new c.pieces.invariant.shrinks (changed s new s.borrowed s.held s.out (places.Putting c.args.closes) c.stand_at.ensures (omega arith)))
 
 pub returns-in-Bad-clause-progresses : goal.returns-in-Bad-clause-progresses
 returns-in-Bad-clause-progresses c =

@@ -8,7 +8,7 @@ use Rattle.http_session.proofs.session.Session.next_content.Given as goal
 abbrev pub invariant-pieces : goal.invariant-pieces
 invariant-pieces l = record {
   took : (fed : List ℕ) (past : Past) → Took l.initial.self fed past → Took l.self fed past;
-  none : l.self.lent ≡ [];
+  none : l.self.borrowed ≡ [];
   quiet : l.self.out ≡ [];
   place : l.self.place ≡ places.Inside l.body l.closes;
   shrinks : Shrinks l.initial.self l.self;

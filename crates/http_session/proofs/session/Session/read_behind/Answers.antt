@@ -1,7 +1,7 @@
 use Rattle.std.proofs.Common.{◌≡◌, take, length, ap, sym, subst, arith, ℕ, List, length-append}
 use Rattle.http_heads.specs.Cut.{HasNoHead}
 use Rattle.http_session.specs.Views.{SessionView}
-use Rattle.http_session.proofs.Fronts.{front_stays}
+use Rattle.http_session.proofs.Prefixes.{prefix_stays}
 use Rattle.http_session.proofs.session.Session.read_behind.Goals as goal
 
 pub invariant_of-self : goal.invariant_of-self
@@ -24,7 +24,7 @@ invariant_of-self-2 g c =
     let long = length-append s.buffer r.0 in (
       omega (arith, ap length added, long, c.self.invariant.0),
       omega (arith, ap length added, long, c.self.invariant.1),
-      front_stays s.scanned s.buffer r.0 c.read_from.new.self c.self.invariant.1 added c.self.invariant.2,
+      prefix_stays s.scanned s.buffer r.0 c.read_from.new.self c.self.invariant.1 added c.self.invariant.2,
       c.self.invariant.3,
       omega (arith, c.requires.within, ap (λ (v : SessionView). v.total) c.self.view_is, r.2),
       c.self.invariant.5,

@@ -1,6 +1,6 @@
 use Rattle.std.proofs.Common.{◌≡◌, ℕ, List, drop, take, length, sym, ap, subst, ◌∙◌, arith}
 use Rattle.http_heads.specs.Cut.{HasNoHead}
-use Rattle.http_session.proofs.Fronts.{no_bytes}
+use Rattle.http_session.proofs.Prefixes.{no_bytes}
 use Rattle.http_session.proofs.session.Session.take.Goals as goal
 
 pub invariant_of-self : goal.invariant_of-self

@@ -6,7 +6,7 @@ use Rattle.repo_model.specs.History.{Follows}
 use Rattle.repo_model.specs.Plain.{config_of}
 use Rattle.repo_core.specs.declared.putting.Kept.{Kept}
 use Rattle.repo_core.specs.Answers.{reply_of, entry_of}
-use Rattle.repo_core.specs.Asks.{puts, Stamps, TouchesNew, SetsRow}
+use Rattle.repo_core.specs.Asks.{puts, Timestamps, TouchesNew, SetsRow}
 use Rattle.repo_core.specs.Called.{parts_of}
 use Rattle.repo_core.specs.Devices.{devices}
 use Rattle.repo_core.specs.Parts.{StandFor}
@@ -26,14 +26,14 @@ use Rattle.repo_core.proofs.repository.Core.commit_put.Goals as goal
 
 pub returns-in-Some-clause-called : goal.returns-in-Some-clause-called
 returns-in-Some-clause-called g c =
-    (barred_with_file (devices g.D.Disk g.T.Keeper) c.args.caller (put_call (upload_of c.args.ready) c.args.moment) (λ asset. reply.Stored asset) (TouchesNew c.args.ready.store c.args.ready.begin.key c.args.moment) (SetsRow c.args.ready.begin.key) (Stamps c.args.ready.begin.key c.args.moment) c.args.self.now c.turn_away.new.self c.in-Some.why c.put.result
+    (barred_with_file (devices g.D.Disk g.T.Keeper) c.args.caller (put_call (upload_of c.args.ready) c.args.moment) (λ asset. reply.Stored asset) (TouchesNew c.args.ready.store c.args.ready.begin.key c.args.moment) (SetsRow c.args.ready.begin.key) (Timestamps c.args.ready.begin.key c.args.moment) c.args.self.now c.turn_away.new.self c.in-Some.why c.put.result
     c.in-Some.ensures (c.put.ensures ∙ ap (λ (r : Reply). record { caller = c.args.caller; call = put_call (upload_of c.args.ready) c.args.moment; reply = r }) c.refused.ensures) c.args.ready.store
     (MayGo (config_of c.args.self.now.config) c.args.ready.begin.key c.args.ready.store × AreBytes (upload_of c.args.ready) (g.D.Writer.Writer.content c.args.ready.file))
     c.drop_file.new.self c.drop_file.ensures.rest c.drop_file.ensures.back c.turn_away.ensures.full c.turn_away.ensures.entry).0
 
 pub returns-in-Some-clause-survives : goal.returns-in-Some-clause-survives
 returns-in-Some-clause-survives g c =
-    (barred_with_file (devices g.D.Disk g.T.Keeper) c.args.caller (put_call (upload_of c.args.ready) c.args.moment) (λ asset. reply.Stored asset) (TouchesNew c.args.ready.store c.args.ready.begin.key c.args.moment) (SetsRow c.args.ready.begin.key) (Stamps c.args.ready.begin.key c.args.moment) c.args.self.now c.turn_away.new.self c.in-Some.why c.put.result
+    (barred_with_file (devices g.D.Disk g.T.Keeper) c.args.caller (put_call (upload_of c.args.ready) c.args.moment) (λ asset. reply.Stored asset) (TouchesNew c.args.ready.store c.args.ready.begin.key c.args.moment) (SetsRow c.args.ready.begin.key) (Timestamps c.args.ready.begin.key c.args.moment) c.args.self.now c.turn_away.new.self c.in-Some.why c.put.result
     c.in-Some.ensures (c.put.ensures ∙ ap (λ (r : Reply). record { caller = c.args.caller; call = put_call (upload_of c.args.ready) c.args.moment; reply = r }) c.refused.ensures) c.args.ready.store
     (MayGo (config_of c.args.self.now.config) c.args.ready.begin.key c.args.ready.store × AreBytes (upload_of c.args.ready) (g.D.Writer.Writer.content c.args.ready.file))
     c.drop_file.new.self c.drop_file.ensures.rest c.drop_file.ensures.back c.turn_away.ensures.full c.turn_away.ensures.entry).1

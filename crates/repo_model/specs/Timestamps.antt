@@ -1,7 +1,7 @@
--- Times and stamps. Both are below 2 ^ 48, and stamps rise.
+-- Times and timestamps. Both are below 2 ^ 48, and timestamps rise.
 use Rattle.std.specs.Prelude.{ℕ, ◌+◌, ◌-◌, ◌^◌, min, max}
 
--- the greatest stamp, and the greatest time
+-- the greatest timestamp, and the greatest time
 abbrev pub greatest_time : ℕ
 greatest_time = 2 ^ 48 - 1
 
@@ -9,6 +9,6 @@ greatest_time = 2 ^ 48 - 1
 abbrev pub time_of : ℕ → ℕ
 time_of now = min now greatest_time
 
--- the stamp of a blob that is made now, after the last stamp
-abbrev pub next_stamp : ℕ → ℕ → ℕ
-next_stamp last now = max (time_of now) (last + 1)
+-- the timestamp of a blob that is made now, after the last timestamp
+abbrev pub next_timestamp : ℕ → ℕ → ℕ
+next_timestamp last now = max (time_of now) (last + 1)
