@@ -7,6 +7,7 @@ use Rattle.repo_model.specs.declared.reply.Fault.{Fault}
 use Rattle.repo_model.specs.declared.reply.Fault.TheVariants as fault
 use Rattle.repo_model.specs.declared.reply.Refusal.{Refusal}
 use Rattle.repo_model.specs.declared.reply.Refusal.TheVariants as refusal
+use Rattle.repo_model.specs.Refusals.{class_of, IsOfFault}
 use Rattle.repo_core.specs.declared.denial.Denial.{Denial}
 use Rattle.repo_core.specs.declared.denial.Denial.TheVariants as denial
 use Rattle.repo_core.specs.declared.stop.Stop.{Stop}
@@ -67,16 +68,4 @@ StoppedBy Is (stop.Denied why) = DeniedBy Is why
 StoppedBy Is (stop.Broke what) = Is what
 
 abbrev pub RefusedBy : (Fault → Type 0) → Refusal → Type 0
-RefusedBy Is refusal.NotFound = ⊥
-RefusedBy Is refusal.UnknownRepo = ⊥
-RefusedBy Is (refusal.WriteDenied policy) = ⊥
-RefusedBy Is refusal.NoWritable = ⊥
-RefusedBy Is (refusal.IdTaken id) = ⊥
-RefusedBy Is refusal.StampsUsed = ⊥
-RefusedBy Is refusal.RemoteFault = ⊥
-RefusedBy Is (refusal.Damaged size found) = ⊥
-RefusedBy Is refusal.DiskFault = Is fault.Disk
-RefusedBy Is refusal.KeeperFault = Is fault.Keeper
-RefusedBy Is (refusal.Broken cause) = ⊥
-RefusedBy Is refusal.JournalFull = ⊥
-RefusedBy Is refusal.NoMemory = Is fault.Memory
+RefusedBy Is why = IsOfFault Is (class_of why)

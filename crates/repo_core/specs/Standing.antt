@@ -3,15 +3,14 @@ use Rattle.std.specs.Prelude.{◌≡◌, ◌⊎◌, ℕ, Bool, true, false, IsTr
 use Rattle.repo_model.specs.declared.call.Call.{Call}
 use Rattle.repo_model.specs.declared.entry.Entry.{Entry}
 use Rattle.repo_model.specs.declared.reply.Refusal.{Refusal}
-use Rattle.repo_model.specs.declared.reply.Refusal.TheVariants as refusal
 use Rattle.repo_model.specs.declared.reply.Reply.{Reply}
-use Rattle.repo_model.specs.declared.reply.Reply.TheVariants as reply
 use Rattle.repo_model.specs.Config.{Config}
 use Rattle.repo_model.specs.State.{State}
 use Rattle.repo_model.specs.Outcome.{answered}
 use Rattle.repo_model.specs.Step.{outcome}
 use Rattle.repo_model.specs.History.{LegalFrom}
 use Rattle.repo_model.specs.Plain.{config_of}
+use Rattle.repo_model.specs.Refusals.{class_of, IsOfNoFault, OnRefused, on_refused}
 use Rattle.disk_model.specs.Disk.{Tree, Lists}
 use Rattle.disk_model.specs.Moments.{Settled}
 use Rattle.asset_keeper.specs.Table.{Table}
@@ -33,29 +32,11 @@ Moves tree table old new entries s =
 
 -- a refusal that tells of no fault of a device, and of no want of memory
 abbrev pub IsSteadyRefusal : Refusal → Type 0
-IsSteadyRefusal refusal.NotFound = Unit {0}
-IsSteadyRefusal refusal.UnknownRepo = Unit {0}
-IsSteadyRefusal (refusal.WriteDenied policy) = Unit {0}
-IsSteadyRefusal refusal.NoWritable = Unit {0}
-IsSteadyRefusal (refusal.IdTaken id) = Unit {0}
-IsSteadyRefusal refusal.StampsUsed = Unit {0}
-IsSteadyRefusal refusal.RemoteFault = Unit {0}
-IsSteadyRefusal (refusal.Damaged size found) = Unit {0}
-IsSteadyRefusal refusal.DiskFault = ⊥
-IsSteadyRefusal refusal.KeeperFault = ⊥
-IsSteadyRefusal (refusal.Broken cause) = Unit {0}
-IsSteadyRefusal refusal.JournalFull = Unit {0}
-IsSteadyRefusal refusal.NoMemory = ⊥
+IsSteadyRefusal why = IsOfNoFault (class_of why)
 
 -- a reply that tells of none
 abbrev pub IsSteady : Reply → Type 0
-IsSteady (reply.Begun store) = Unit {0}
-IsSteady (reply.Stored asset) = Unit {0}
-IsSteady (reply.Found asset) = Unit {0}
-IsSteady reply.Gone = Unit {0}
-IsSteady reply.Removed = Unit {0}
-IsSteady (reply.Reconciled kept) = Unit {0}
-IsSteady (reply.Refused why) = IsSteadyRefusal why
+IsSteady = OnRefused IsSteadyRefusal
 
 -- where the reply tells of no fault, the step of the upload in that store answers so
 abbrev pub AnswersAt : Config → State → List ℕ → Call → Reply → State → Type 0
@@ -74,13 +55,7 @@ IsDurable tree clock lists disk = Settled (tree disk) (lists disk (clock disk))
 
 -- whether a call did what it was for
 abbrev pub is_done : Reply → Bool
-is_done (reply.Begun store) = true
-is_done (reply.Stored asset) = true
-is_done (reply.Found asset) = true
-is_done reply.Gone = true
-is_done reply.Removed = true
-is_done (reply.Reconciled kept) = true
-is_done (reply.Refused why) = false
+is_done = on_refused true (λ why. false)
 
 -- The tree has the contents before the call, or those after the step by which it is done. The store is that of the upload that it ends.
 abbrev pub BeforeOrAfter : Config → State → List ℕ → Call → Tree → Type 0

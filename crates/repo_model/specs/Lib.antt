@@ -1,4 +1,5 @@
 pub mod Journal
+pub mod Refusals
 pub mod Spots
 pub mod Config
 pub mod State

@@ -1,15 +1,14 @@
 -- What one request makes of a core.
-use Rattle.std.specs.Prelude.{◌≡◌, ℕ, ◌+◌, Bool, true, false, List, [], length, count_by, Option, Some, None, IsSome}
+use Rattle.std.specs.Prelude.{◌≡◌, ℕ, ◌+◌, Bool, false, List, [], length, count_by, Option, Some, None, IsSome}
 use Rattle.sha1.specs.Sha1.{sha1}
 use Rattle.nx_io.specs.Causes.{Rose, RoseBy}
 use Rattle.nx_base.specs.declared.moment.Moment.{Moment}
 use Rattle.repo_model.specs.declared.entry.Entry.{Entry}
 use Rattle.repo_model.specs.declared.reply.Reply.{Reply}
-use Rattle.repo_model.specs.declared.reply.Reply.TheVariants as reply
 use Rattle.repo_model.specs.declared.reply.Refusal.{Refusal}
-use Rattle.repo_model.specs.declared.reply.Refusal.TheVariants as refusal
 use Rattle.repo_model.specs.State.{State}
 use Rattle.repo_model.specs.Plain.{config_of}
+use Rattle.repo_model.specs.Refusals.{class_of, is_of_fault, is_disk, is_keeper, on_refused}
 use Rattle.http_requests.specs.Requests.{Item}
 use Rattle.http_front.specs.declared.stop.Stop.{Stop}
 use Rattle.http_front.specs.declared.stop.Stop.TheVariants as stops
@@ -28,44 +27,14 @@ setting_of core draws = record { caller = 0; config = config_of core.config; dig
 
 -- whether a refusal says that the disk failed, or the keeper
 abbrev pub says_disk : Refusal → Bool
-says_disk refusal.NotFound = false
-says_disk refusal.UnknownRepo = false
-says_disk (refusal.WriteDenied policy) = false
-says_disk refusal.NoWritable = false
-says_disk (refusal.IdTaken id) = false
-says_disk refusal.StampsUsed = false
-says_disk refusal.RemoteFault = false
-says_disk (refusal.Damaged size found) = false
-says_disk refusal.DiskFault = true
-says_disk refusal.KeeperFault = false
-says_disk (refusal.Broken cause) = false
-says_disk refusal.JournalFull = false
-says_disk refusal.NoMemory = false
+says_disk why = is_of_fault is_disk (class_of why)
 
 abbrev pub says_keeper : Refusal → Bool
-says_keeper refusal.NotFound = false
-says_keeper refusal.UnknownRepo = false
-says_keeper (refusal.WriteDenied policy) = false
-says_keeper refusal.NoWritable = false
-says_keeper (refusal.IdTaken id) = false
-says_keeper refusal.StampsUsed = false
-says_keeper refusal.RemoteFault = false
-says_keeper (refusal.Damaged size found) = false
-says_keeper refusal.DiskFault = false
-says_keeper refusal.KeeperFault = true
-says_keeper (refusal.Broken cause) = false
-says_keeper refusal.JournalFull = false
-says_keeper refusal.NoMemory = false
+says_keeper why = is_of_fault is_keeper (class_of why)
 
 -- whether the reply is a refusal that does
 abbrev pub refuses_by : (Refusal → Bool) → Reply → Bool
-refuses_by says (reply.Begun store) = false
-refuses_by says (reply.Stored asset) = false
-refuses_by says (reply.Found asset) = false
-refuses_by says reply.Gone = false
-refuses_by says reply.Removed = false
-refuses_by says (reply.Reconciled kept) = false
-refuses_by says (reply.Refused why) = says why
+refuses_by says = on_refused false says
 
 -- how many of the entries say that the disk failed, or the keeper
 abbrev pub disk_faults_in : List Entry → ℕ
