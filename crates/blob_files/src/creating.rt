@@ -22,6 +22,7 @@ fn put_both<D: Disk>(
     ensures bytes { D.told → OnOk result (D.tree disk.new (bytes_at files.now.place) ≡ Some (D.Writer.content file)) }
     ensures props { D.told → OnOk result (D.tree disk.new (props_at files.now.place) ≡ Some props.now) }
     ensures rest { D.told → RestOfPlace files.now.place (D.tree disk.old) (D.tree disk.new) }
+    ensures created { D.told → D.tree disk.old (props_at files.now.place) ≡ None → IsCreatedIn files.now.place (D.Writer.content file) props.now (D.tree disk.old) (D.tree disk.new) }
     ensures bytes_settled { D.told → OnOk result (D.lists disk.new (D.clock disk.new) (bytes_at files.now.place) ≡ Some (D.Writer.content file) ∷ []) }
     ensures props_settled { D.told → OnOk result (D.lists disk.new (D.clock disk.new) (props_at files.now.place) ≡ Some props.now ∷ []) }
     ensures cause { HasCauseWhere IsFault (D.faults disk.old) (D.faults disk.new) result }
@@ -48,6 +49,8 @@ pub fn create<D: Disk>(
     ensures bytes { D.told → OnOk result (D.tree disk.new (bytes_at files.now.place) ≡ Some (D.Writer.content file)) }
     ensures props { D.told → OnOk result (D.tree disk.new (props_at files.now.place) ≡ Some props.now) }
     ensures rest { D.told → RestOfPlace files.now.place (D.tree disk.old) (D.tree disk.new) }
+    // Where no properties stood, the tree has none now, or both files whole, whatever it answers.
+    ensures created { D.told → D.tree disk.old (props_at files.now.place) ≡ None → IsCreatedIn files.now.place (D.Writer.content file) props.now (D.tree disk.old) (D.tree disk.new) }
     ensures bytes_settled { D.told → OnOk result (D.lists disk.new (D.clock disk.new) (bytes_at files.now.place) ≡ Some (D.Writer.content file) ∷ []) }
     ensures props_settled { D.told → OnOk result (D.lists disk.new (D.clock disk.new) (props_at files.now.place) ≡ Some props.now ∷ []) }
     ensures cause { HasCauseWhere IsFault (D.faults disk.old) (D.faults disk.new) result }

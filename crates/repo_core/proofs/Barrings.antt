@@ -185,6 +185,16 @@ module _ {D T A : Type 0} (on : Devices D T) (ask : Ask D A) (old new : CoreView
       }
     ]
 
+    untouched : AreUntouched on (parts_of old) (parts_of new)
+    untouched = record {
+      unseen = record {
+        quiet = back.quiet;
+        rows = subst (λ (t : T). Tells (on.table old.table) (on.table t) (λ a b. b ≡ a)) (sym same_table) (tells_still (λ a b. b ≡ a) (λ t. refl) (on.table old.table));
+        changes = ap on.changes same_table;
+      };
+      own = ap (λ (core : CoreView D T). core.own) rest;
+    }
+
     pub survives_barred : ((config : Config) (s : State) (image : Tree) → HasContents (homes_of config) (contents_in s.rows) image → ask.leaves config s image) → Survives on ask old new result
     survives_barred before = record {
       crash = λ told some premise s tracks none settled.
@@ -195,14 +205,9 @@ module _ {D T A : Type 0} (on : Devices D T) (ask : Ask D A) (old new : CoreView
       table = subst (λ (t : T). Tells (on.table old.table) (on.table t) (λ a b. (b ≡ a) ⊎ ask.alters a b)) (sym same_table) (tells_still (λ a b. (b ≡ a) ⊎ ask.alters a b) (λ t. inl refl) (on.table old.table));
       own = inl (ap (λ (core : CoreView D T). core.own) rest);
       own_done = subst (λ (r : Result A Refusal). OnOk r (ask.keeps old.own new.own)) (sym answer) tt;
-      clean = λ none. subst (λ (r : Result A Refusal). OnErr r (AreUntouched on (parts_of old) (parts_of new))) (sym answer) (record {
-        unseen = record {
-          quiet = back.quiet;
-          rows = subst (λ (t : T). Tells (on.table old.table) (on.table t) (λ a b. b ≡ a)) (sym same_table) (tells_still (λ a b. b ≡ a) (λ t. refl) (on.table old.table));
-          changes = ap on.changes same_table;
-        };
-        own = ap (λ (core : CoreView D T). core.own) rest;
-      });
+      halfway = λ told some premise s tracks none cause broke. absurd (some_none old.broken cause none (sym same_broken ∙ broke));
+      stuck = λ cause was. (same_broken ∙ was, untouched);
+      clean = λ none. subst (λ (r : Result A Refusal). OnErr r (AreUntouched on (parts_of old) (parts_of new))) (sym answer) untouched;
     }
 
 -- a disk on which no call was made

@@ -94,5 +94,7 @@ module _ {D T A : Type 0} (on : Devices D T) (ask : Ask D A) (old new : CoreView
       table = work.table;
       own = if_not_denied ((own ≡ old.own) ⊎ ask.keeps old.own own) done (λ denied. inl (work.clean denied).own) (λ made. inr (work.own made));
       own_done = on_done says (ask.keeps old.own own) done result is (λ made. work.own made);
+      halfway = λ told some premise s tracks none what broke. work.halfway told some premise s (tracks.agrees none) (was_broke done number cause caused what broke);
+      stuck = λ what was. absurd (some_none old.broken what sound was);
       clean = λ none. if_denied says (AreUntouched on (parts_of old) (parts_of left)) number done result cause is caused none work.clean;
     })

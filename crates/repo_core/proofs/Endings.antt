@@ -31,7 +31,7 @@ use Rattle.repo_core.specs.declared.own.Own.{Own}
 use Rattle.repo_core.specs.Agree.{FilesAgree, Agrees}
 use Rattle.repo_core.specs.Marks.{IsMarkOf}
 use Rattle.repo_core.specs.Puts.{put_call, next_ref, props_of, MayGo, AreBytes, IsPrepared}
-use Rattle.repo_core.specs.Standing.{BeforeOrAfter}
+use Rattle.repo_core.specs.Standing.{ImageBeforeOrAfter}
 use Rattle.repo_core.proofs.Creatings.{Makes, files_created, files_replaced}
 use Rattle.repo_core.proofs.Puttings.{later_timestamp}
 use Rattle.repo_core.proofs.Givings.{its_props}
@@ -64,7 +64,7 @@ module _ {S : Type 0} (content : S → List ℕ) (config : Config) (tree : Tree)
   -- while the files are shown
   pub crash_one : {D : Type 0} (clock : D → ℕ) (lists : D → ℕ → Lists) (d0 d1 d2 : D) (before : Tree) → Same tree before → Settled tree (lists d0 (clock d0))
       → During clock lists d0 d1 (Same (lists d0 (clock d0))) → During clock lists d1 d2 (Creates staged.new.files.place bytes staged.new.text.items (lists d1 (clock d1)))
-      → During clock lists d0 d2 (EachImage (BeforeOrAfter config s store (put_call upload moment)))
+      → During clock lists d0 d2 (EachImage (ImageBeforeOrAfter config s store (put_call upload moment)))
   crash_one clock lists d0 d1 d2 before same settled first second =
       crash_created config tree s a.files upload blob new_one refl later staged.new p.new p.free clock lists d0 d1 d2 store (put_call upload moment) after (reply.Stored staged.new.asset) before bytes
       put_outcome refl refl same settled first second
@@ -134,12 +134,12 @@ module _ {S : Type 0} (content : S → List ℕ) (config : Config) (tree : Tree)
 
       -- while the old blob is marked
       pub crash_two : {D : Type 0} (clock : D → ℕ) (lists : D → ℕ → Lists) (d0 d2 d3 : D) → Settled mid (lists d2 (clock d2))
-          → During clock lists d0 d2 (EachImage (BeforeOrAfter config s store (put_call upload moment)))
+          → During clock lists d0 d2 (EachImage (ImageBeforeOrAfter config s store (put_call upload moment)))
           → During clock lists d2 d3 (MayPut (props_at mark.files.place) (Some (content mark.file)) (lists d2 (clock d2)))
-          → During clock lists d0 d3 (EachImage (BeforeOrAfter config s store (put_call upload moment)))
+          → During clock lists d0 d3 (EachImage (ImageBeforeOrAfter config s store (put_call upload moment)))
       crash_two clock lists d0 d2 d3 settled first second =
           let start = lists d2 (clock d2) in
-          let P : Lists → Type 0 = EachImage (BeforeOrAfter config s store (put_call upload moment)) in
+          let P : Lists → Type 0 = EachImage (ImageBeforeOrAfter config s store (put_call upload moment)) in
           and_then clock lists P d0 d2 d3 first
           (weaker clock lists (MayPut (props_at mark.files.place) (Some (content mark.file)) start) P d2 d3
           (λ l put image here.

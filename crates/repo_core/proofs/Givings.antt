@@ -35,7 +35,7 @@ use Rattle.repo_core.specs.Stores.{homes_of}
 use Rattle.repo_core.specs.Rows.{content_in, contents_in}
 use Rattle.repo_core.specs.Agree.{FilesAgree, Agrees}
 use Rattle.repo_core.specs.Marks.{IsMarkOf}
-use Rattle.repo_core.specs.Standing.{BeforeOrAfter, is_done}
+use Rattle.repo_core.specs.Standing.{ImageBeforeOrAfter, is_done}
 use Rattle.repo_core.proofs.Samenesses.{files_same}
 use Rattle.repo_core.proofs.Markings.{Marks, cut_contents, files_marked}
 
@@ -57,10 +57,10 @@ module _ (config : Config) (tree : Tree) (s : State) (a : FilesAgree config tree
 
   -- while nothing can be seen, each image has the contents before
   pub crash_same : {D : Type 0} (clock : D → ℕ) (lists : D → ℕ → Lists) (old new : D) (store : List ℕ) (c : Call) → Settled tree (lists old (clock old))
-      → During clock lists old new (Same (lists old (clock old))) → During clock lists old new (EachImage (BeforeOrAfter config s store c))
+      → During clock lists old new (Same (lists old (clock old))) → During clock lists old new (EachImage (ImageBeforeOrAfter config s store c))
   crash_same clock lists old new store c settled run =
       let start = lists old (clock old) in
-      weaker clock lists (Same start) (EachImage (BeforeOrAfter config s store c)) old new
+      weaker clock lists (Same start) (EachImage (ImageBeforeOrAfter config s store c)) old new
       (λ l same image is. inl (same_contents image (same_image tree start l settled same image is))) run
 
   module _ (key : Key) (asset : Asset) (row : row_of s key ≡ Some asset) where
@@ -125,10 +125,10 @@ module _ (config : Config) (tree : Tree) (s : State) (a : FilesAgree config tree
           → IsTrue (is_done said) → after.rows ≡ map.remove s.rows key
           → Settled tree (lists old (clock old)) → During clock lists old mid (Same (lists old (clock old)))
           → During clock lists mid new (MayPut (props_at mark.files.place) (Some (content mark.file)) (lists mid (clock mid)))
-          → During clock lists old new (EachImage (BeforeOrAfter config s [] c))
+          → During clock lists old new (EachImage (ImageBeforeOrAfter config s [] c))
       crash_marked clock lists old mid new after said step done rows settled first second =
           let start = lists old (clock old) in
-          weaker clock lists (MayPut (props_name blob) (Some text) start) (EachImage (BeforeOrAfter config s [] c)) old new
+          weaker clock lists (MayPut (props_name blob) (Some text) start) (EachImage (ImageBeforeOrAfter config s [] c)) old new
           (λ l put image is. ⊎_elim (λ before. inl before)
           (λ gone. inr (said, after, step, done, subst (λ (r : map.FinMap key_cmp Asset). HasContents homes (contents_in r) image) (sym rows) gone))
           (image_marked start l settled put image is))

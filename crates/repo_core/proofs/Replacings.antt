@@ -43,7 +43,7 @@ use Rattle.repo_core.specs.Rows.{content_in, contents_in}
 use Rattle.repo_core.specs.Agree.{FilesAgree}
 use Rattle.repo_core.specs.Marks.{IsMarkOf}
 use Rattle.repo_core.specs.Puts.{props_of, IsNewBlob, MayGo, AreBytes, StagesOld, with_old}
-use Rattle.repo_core.specs.Standing.{BeforeOrAfter, is_done}
+use Rattle.repo_core.specs.Standing.{ImageBeforeOrAfter, is_done}
 use Rattle.repo_core.proofs.Creatings.{Makes, set_contents}
 use Rattle.repo_core.proofs.Readings.{free_apart}
 use Rattle.repo_core.proofs.Runs.{at_end}
@@ -189,9 +189,9 @@ module _ (config : Config) (tree : Tree) (s : State) (a : FilesAgree config tree
   pub crash_created : {D : Type 0} (clock : D → ℕ) (lists : D → ℕ → Lists) (d0 d1 d2 : D) (store : List ℕ) (c : Call) (after : State) (said : Reply) (before : Tree) (bytes : List ℕ)
       → outcome config s store c ≡ answered after said → IsTrue (is_done said) → after.rows ≡ rows → Same tree before → Settled tree (lists d0 (clock d0))
       → During clock lists d0 d1 (Same (lists d0 (clock d0))) → During clock lists d1 d2 (Creates made.files.place bytes made.text.items (lists d1 (clock d1)))
-      → During clock lists d0 d2 (EachImage (BeforeOrAfter config s store c))
+      → During clock lists d0 d2 (EachImage (ImageBeforeOrAfter config s store c))
   crash_created clock lists d0 d1 d2 store c after said before bytes step done rows_are same settled first second =
-      let P : Lists → Type 0 = EachImage (BeforeOrAfter config s store c) in
+      let P : Lists → Type 0 = EachImage (ImageBeforeOrAfter config s store c) in
       let start = lists d1 (clock d1) in
       let settled_there = settled_same tree before (lists d0 (clock d0)) start settled same (at_end clock lists d0 d1 (Same (lists d0 (clock d0))) first) in
       and_then clock lists P d0 d1 d2 (crash_same config tree s a clock lists d0 d1 store c settled first)

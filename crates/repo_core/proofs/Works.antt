@@ -16,7 +16,7 @@ use Rattle.repo_core.specs.Asks.{Ask}
 use Rattle.repo_core.specs.Devices.{Devices}
 use Rattle.repo_core.specs.Faults.{IsDisk, IsKeeper, StoppedBy}
 use Rattle.repo_core.specs.Parts.{Parts, StandFor, KeepsRest, IsQuiet, HasShown}
-use Rattle.repo_core.specs.Rows.{contents_in}
+use Rattle.repo_core.specs.Rows.{contents_in, rows_in}
 use Rattle.repo_core.specs.Standing.{IsDurable}
 use Rattle.repo_core.specs.Stays.{BytesStay}
 use Rattle.repo_core.specs.Stores.{homes_of}
@@ -51,6 +51,7 @@ stays_quiet on old new quiet told = stay_same (on.tree old) (on.tree new) (quiet
 pub worked_by : {D T X A : Type 0} (on : Devices D T) (ask : Ask D A) (config : Config) (old new : Parts D T) (done : Result X Stop)
     → (on.told → IsSome (on.table new.table) → ask.premise → (s : State) → StandFor on config old s → IsDurable on.tree on.clock on.lists old.disk
     → During on.clock on.lists old.disk new.disk (EachImage (ask.leaves config s)))
+    → (on.told → IsSome (on.table new.table) → ask.premise → (s : State) → StandFor on config old s → is_broke done ≡ true → ask.halfway config s (on.tree new.disk) (rows_in (on.table new.table)))
     → (on.told → is_broke done ≡ false → IsDurable on.tree on.clock on.lists old.disk → IsDurable on.tree on.clock on.lists new.disk)
     → (on.told → BytesStay (on.tree old.disk) (on.tree new.disk))
     → (on.told → IsSome (on.table new.table) → ask.premise → (s : State) → StandFor on config old s → KeepsRest on (ask.touches s) old.disk new.disk)
@@ -66,8 +67,9 @@ pub worked_by : {D T X A : Type 0} (on : Devices D T) (ask : Ask D A) (config : 
     → HasCauseWhere (StoppedBy IsDisk) (on.disk_faults old.disk) (on.disk_faults new.disk) done
     → HasCauseWhere (StoppedBy IsKeeper) (on.keeper_faults old.table) (on.keeper_faults new.table) done
     → Worked on ask config old new done
-worked_by on ask config old new done crash durable stays rest table keeps files moments rows own behind unshown lasting disk keeper = record {
+worked_by on ask config old new done crash halfway durable stays rest table keeps files moments rows own behind unshown lasting disk keeper = record {
   crash = crash;
+  halfway = halfway;
   durable = durable;
   stays = stays;
   rest = rest;
@@ -91,6 +93,7 @@ worked_by on ask config old new done crash durable stays rest table keeps files 
 -- of a work of which nothing can be seen in the files
 pub worked_quietly : {D T X A : Type 0} (on : Devices D T) (ask : Ask D A) (config : Config) (old new : Parts D T) (done : Result X Stop)
     → ((s : State) (image : Tree) → HasContents (homes_of config) (contents_in s.rows) image → ask.leaves config s image)
+    → (on.told → IsSome (on.table new.table) → ask.premise → (s : State) → StandFor on config old s → is_broke done ≡ true → ask.halfway config s (on.tree new.disk) (rows_in (on.table new.table)))
     → IsQuiet on old.disk new.disk
     → Tells (on.table old.table) (on.table new.table) (λ s t. (t ≡ s) ⊎ ask.alters s t)
     → (is_denied done ≡ false → ask.keeps old.own new.own)
@@ -100,9 +103,10 @@ pub worked_quietly : {D T X A : Type 0} (on : Devices D T) (ask : Ask D A) (conf
     → HasCauseWhere (StoppedBy IsDisk) (on.disk_faults old.disk) (on.disk_faults new.disk) done
     → HasCauseWhere (StoppedBy IsKeeper) (on.keeper_faults old.table) (on.keeper_faults new.table) done
     → Worked on ask config old new done
-worked_quietly on ask config old new done before quiet table keeps rows own behind unchanged lasting disk keeper =
+worked_quietly on ask config old new done before halfway quiet table keeps rows own behind unchanged lasting disk keeper =
     worked_by on ask config old new done
     (λ told some _ s a settled. crash_before config (on.tree old.disk) s a.files on.clock on.lists old.disk new.disk (ask.leaves config s) (before s) settled (quiet.moments told))
+    halfway
     (λ told _ settled. durable_quiet on old.disk new.disk quiet told settled)
     (λ told. stays_quiet on old.disk new.disk quiet told)
     (λ told some _ s a. rest_quiet on (ask.touches s) told old.disk new.disk quiet) table keeps

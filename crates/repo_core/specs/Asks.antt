@@ -1,6 +1,7 @@
 -- What a core is asked, as far as that tells one call from another.
 use Rattle.std.specs.Prelude.{◌≡◌, ◌⊎◌, ℕ, ◌+◌, ◌%◌, ◌^◌, unwrap_or, List, [], ◌∷◌, Option, Some, None, Result}
 use Rattle.std.specs.FinMap as map
+use Rattle.nx_base.specs.Order.{key_cmp}
 use Rattle.nx_base.specs.declared.asset.Asset.{Asset}
 use Rattle.nx_base.specs.declared.key.Key.{Key}
 use Rattle.nx_base.specs.declared.moment.Moment.{Moment}
@@ -32,13 +33,15 @@ use Rattle.repo_core.specs.Devices.{Devices}
 use Rattle.repo_core.specs.Looking.{found_in}
 use Rattle.repo_core.specs.Parts.{IsQuiet}
 use Rattle.repo_core.specs.Puts.{put_call, upload_of, next_ref, MayGo, AreBytes}
-use Rattle.repo_core.specs.Standing.{BeforeOrAfter}
+use Rattle.repo_core.specs.Standing.{ImageBeforeOrAfter, IsHalfway}
 
 pub record Ask (D A : Type 0) : Type 1 where
   -- which entries the journal gets, where it has room, of this answer
   pub enters : Result A Refusal → List Entry → Type 0
   -- which files a crash during the call may leave
   pub leaves : Config → State → Tree → Type 0
+  -- which files and rows it may leave where it is stopped halfway
+  pub halfway : Config → State → Tree → map.FinMap key_cmp Asset → Type 0
   -- the names whose files it may change, and the tables that its change of a table leaves
   pub touches : State → List ℕ → Type 0
   pub alters : Table → Table → Type 0
@@ -59,7 +62,8 @@ EntersOne caller c says result entries = entries ≡ entry_of caller c says resu
 abbrev pub asks : {D A : Type 0} → ℕ → Call → (A → Reply) → (State → List ℕ → Type 0) → (Table → Table → Type 0) → (Own → Own → Type 0) → Ask D A
 asks caller c says touches alters keeps = record {
   enters = EntersOne caller c says;
-  leaves = λ config s. BeforeOrAfter config s [] c;
+  leaves = λ config s. ImageBeforeOrAfter config s [] c;
+  halfway = λ config s. IsHalfway config s [] c;
   touches = touches;
   alters = alters;
   keeps = keeps;
@@ -77,7 +81,8 @@ pub record TookBack {D T : Type 0} (on : Devices D T) (old new : D) : Type 0 whe
 abbrev pub asks_to_store : {D T A : Type 0} → Devices D T → ℕ → Call → (A → Reply) → (State → List ℕ → Type 0) → (Table → Table → Type 0) → (Own → Own → Type 0) → List ℕ → Type 0 → Ask D A
 asks_to_store on caller c says touches alters keeps store premise = record {
   enters = EntersOne caller c says;
-  leaves = λ config s. BeforeOrAfter config s store c;
+  leaves = λ config s. ImageBeforeOrAfter config s store c;
+  halfway = λ config s. IsHalfway config s store c;
   touches = touches;
   alters = alters;
   keeps = keeps;

@@ -1,5 +1,8 @@
 -- When a core stands for a state of the one-thread repository, and what a call of it leads to.
 use Rattle.std.specs.Prelude.{◌≡◌, ◌⊎◌, ℕ, Bool, true, false, IsTrue, List, [], ◌∷◌, length, Option, Some, None}
+use Rattle.std.specs.FinMap as map
+use Rattle.nx_base.specs.Order.{key_cmp}
+use Rattle.nx_base.specs.declared.asset.Asset.{Asset}
 use Rattle.repo_model.specs.declared.call.Call.{Call}
 use Rattle.repo_model.specs.declared.entry.Entry.{Entry}
 use Rattle.repo_model.specs.declared.reply.Refusal.{Refusal}
@@ -57,8 +60,16 @@ IsDurable tree clock lists disk = Settled (tree disk) (lists disk (clock disk))
 abbrev pub is_done : Reply → Bool
 is_done = on_refused true (λ why. false)
 
--- The tree has the contents before the call, or those after the step by which it is done. The store is that of the upload that it ends.
-abbrev pub BeforeOrAfter : Config → State → List ℕ → Call → Tree → Type 0
-BeforeOrAfter config s store c image =
-    HasContents (homes_of config) (contents_in s.rows) image
-    ⊎ ((said : Reply) × (new : State) × (outcome config s store c ≡ answered new said) × IsTrue (is_done said) × HasContents (homes_of config) (contents_in new.rows) image)
+-- This holds of the state before the call, or of the one after the step by which it is done. The store is that of the upload that it ends.
+abbrev pub BeforeOrAfter : Config → State → List ℕ → Call → (State → Type 0) → Type 0
+BeforeOrAfter config s store c holds =
+    holds s ⊎ ((said : Reply) × (new : State) × (outcome config s store c ≡ answered new said) × IsTrue (is_done said) × holds new)
+
+-- the tree has the contents before or after
+abbrev pub ImageBeforeOrAfter : Config → State → List ℕ → Call → Tree → Type 0
+ImageBeforeOrAfter config s store c image = BeforeOrAfter config s store c (λ t. HasContents (homes_of config) (contents_in t.rows) image)
+
+-- Where a call is stopped halfway, the tree has the contents before or after, and the rows are those before or after.
+pub record IsHalfway (config : Config) (s : State) (store : List ℕ) (c : Call) (tree : Tree) (rows : map.FinMap key_cmp Asset) : Type 0 where
+  pub files : ImageBeforeOrAfter config s store c tree
+  pub rows_are : BeforeOrAfter config s store c (λ t. rows ≡ t.rows)

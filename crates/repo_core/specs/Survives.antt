@@ -1,5 +1,6 @@
 -- What a crash inside a call, or a refusal, leaves of a core.
-use Rattle.std.specs.Prelude.{◌≡◌, ◌⊎◌, None, IsSome, Result, OnOk, OnErr}
+use Rattle.std.specs.Prelude.{◌≡◌, ◌⊎◌, Some, None, IsSome, Result, OnOk, OnErr}
+use Rattle.repo_model.specs.declared.reply.Cause.{Cause}
 use Rattle.repo_model.specs.declared.reply.Refusal.{Refusal}
 use Rattle.repo_model.specs.State.{State}
 use Rattle.repo_model.specs.Plain.{config_of}
@@ -9,6 +10,7 @@ use Rattle.repo_core.specs.Asks.{Ask}
 use Rattle.repo_core.specs.Devices.{Devices}
 use Rattle.repo_core.specs.Called.{parts_of}
 use Rattle.repo_core.specs.Parts.{KeepsRest, AreUntouched}
+use Rattle.repo_core.specs.Rows.{rows_in}
 use Rattle.repo_core.specs.Standing.{Tracks, IsDurable}
 use Rattle.repo_core.specs.Stays.{BytesStay}
 use Rattle.repo_core.specs.View.{CoreView}
@@ -30,3 +32,9 @@ pub record Survives {D T A : Type 0} (on : Devices D T) (ask : Ask D A) (old new
   pub own_done : OnOk result (ask.keeps old.own new.own)
   -- A refusal that doesn't break the core leaves everything.
   pub clean : new.broken ≡ None → OnErr result (AreUntouched on (parts_of old) (parts_of new))
+  -- Where it breaks the core, the tree has contents that the call allows, as each image has by then, and so are the rows, also of a folder
+  -- that wasn't settled.
+  pub halfway : on.told → IsSome (on.table new.table) → ask.premise → (s : State) → Tracks on.tree on.table old s → old.broken ≡ None
+      → (cause : Cause) → new.broken ≡ Some cause → ask.halfway (config_of old.config) s (on.tree new.disk) (rows_in (on.table new.table))
+  -- A core that was broken stays so, and files, at every moment, rows and its own parts stay with it.
+  pub stuck : (cause : Cause) → old.broken ≡ Some cause → (new.broken ≡ Some cause) × AreUntouched on (parts_of old) (parts_of new)

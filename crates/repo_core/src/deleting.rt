@@ -22,7 +22,7 @@ ghost use Rattle.repo_core.specs.Rows.{rows_in};
 ghost use Rattle.repo_core.specs.Agree.{Agrees};
 ghost use Rattle.repo_core.specs.Faults.{IsDisk, IsKeeper, DeniedBy, StoppedBy, refusal_for, refusal_of_stop};
 ghost use Rattle.repo_core.specs.Answers.{is_denied, is_broke};
-ghost use Rattle.repo_core.specs.Standing.{IsDurable, BeforeOrAfter};
+ghost use Rattle.repo_core.specs.Standing.{IsDurable, ImageBeforeOrAfter};
 ghost use Rattle.repo_core.specs.Ends.{MayDelete, Ends};
 ghost use Rattle.repo_core.specs.Stays.{BytesStay};
 ghost use Rattle.repo_core.specs.Asks.{Discards, TouchesRow, RemovesRow};
@@ -174,7 +174,7 @@ pub(crate) fn give_up_row<D: Disk, T: Keeper>(
     // At every moment each image has the contents before or after.
     ensures crash { D.told → IsSome (T.table table.new) → (s : State) → Agrees (config_of config.now) (D.tree disk.old) (rows_in (T.table table.old)) own.old s
         → IsDurable D.tree D.clock D.lists disk.old
-        → During D.clock D.lists disk.old disk.new (EachImage (BeforeOrAfter (config_of config.now) s [] (call.Delete key.now now))) }
+        → During D.clock D.lists disk.old disk.new (EachImage (ImageBeforeOrAfter (config_of config.now) s [] (call.Delete key.now now))) }
     ensures durable { D.told → is_broke result ≡ false → IsDurable D.tree D.clock D.lists disk.old → IsDurable D.tree D.clock D.lists disk.new }
     // The blob's properties say when and why it was deleted, and else what they said.
     ensures marked { D.told → IsSome (T.table table.new) → (s : State) (asset : Asset) → Agrees (config_of config.now) (D.tree disk.old) (rows_in (T.table table.old)) own.old s → row_of s key.now ≡ Some asset

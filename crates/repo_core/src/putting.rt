@@ -24,7 +24,7 @@ ghost use Rattle.repo_model.specs.Timestamps.{greatest_time, next_timestamp, tim
 ghost use Rattle.repo_core.specs.Marks.{HasMark, HasOld, HasProps};
 ghost use Rattle.blob_properties.specs.Readable.{Readable};
 ghost use Rattle.repo_core.specs.Answers.{is_denied, is_broke};
-ghost use Rattle.repo_core.specs.Standing.{IsDurable, BeforeOrAfter};
+ghost use Rattle.repo_core.specs.Standing.{IsDurable, ImageBeforeOrAfter};
 ghost use Rattle.repo_core.specs.Ends.{EndsAt};
 ghost use Rattle.repo_model.specs.declared.reply.Reply.TheVariants as reply;
 
@@ -167,7 +167,7 @@ pub(crate) fn put_content<D: Disk, T: Keeper>(
     // At every moment each image has the contents before or after.
     ensures crash { D.told → IsSome (T.table table.new) → MayGo (config_of config.now) upload.now.key store.now → AreBytes upload.now (D.Writer.content file)
         → (s : State) → Agrees (config_of config.now) (D.tree disk.old) (rows_in (T.table table.old)) own.old s → IsDurable D.tree D.clock D.lists disk.old
-        → During D.clock D.lists disk.old disk.new (EachImage (BeforeOrAfter (config_of config.now) s store.now (put_call upload.now moment.entry.now))) }
+        → During D.clock D.lists disk.old disk.new (EachImage (ImageBeforeOrAfter (config_of config.now) s store.now (put_call upload.now moment.entry.now))) }
     ensures durable { D.told → is_broke result ≡ false → IsDurable D.tree D.clock D.lists disk.old → IsDurable D.tree D.clock D.lists disk.new }
     // The new blob's properties say what was put, and those of the blob that the key had, when and why it was replaced.
     ensures says { D.told → IfOk result (λ kept. HasProps (D.tree disk.new) kept.asset.blob (props_of upload.now kept.asset.blob.timestamp)) }

@@ -1,3 +1,4 @@
+pub mod Alone
 pub mod Names
 pub mod Moments
 pub mod Naming
