@@ -1,5 +1,5 @@
 -- How a put that was made ready ends.
-use Rattle.std.proofs.Common.{◌≡◌, inr, ◌<◌, ℕ, List, codes, Option, Some, None, refl, sym, ◌∙◌, ap, subst}
+use Rattle.std.proofs.Common.{◌≡◌, ◌⊎◌, inl, inr, ⊎_elim, ◌<◌, ℕ, List, codes, Option, Some, None, refl, sym, ◌∙◌, ap, subst}
 use Rattle.std.specs.FinMap as map
 use Rattle.nx_base.specs.Given.{given}
 use Rattle.nx_base.specs.Order.{key_cmp, age_cmp}
@@ -24,18 +24,23 @@ use Rattle.blob_paths.specs.Places.{place_of}
 use Rattle.blob_properties.specs.Props.{with_mark}
 use Rattle.blob_properties.specs.Readable.{marked_text_of}
 use Rattle.tree_content.specs.Blobs.{Reads, bytes_at, props_at, props_name}
-use Rattle.tree_content.specs.Files.{RestOfPlace, Creates}
+use Rattle.tree_content.specs.Contents.{HasContents}
+use Rattle.tree_content.specs.Files.{RestOfPlace, Creates, IsCreatedIn}
+use Rattle.tree_content.proofs.Alone.{alone, alone_settled, alone_image, alone_put}
 use Rattle.repo_core.specs.declared.marking.Mark.{Mark}
 use Rattle.repo_core.specs.declared.staging.Staged.{Staged}
 use Rattle.repo_core.specs.declared.own.Own.{Own}
 use Rattle.repo_core.specs.Agree.{FilesAgree, Agrees}
 use Rattle.repo_core.specs.Marks.{IsMarkOf}
 use Rattle.repo_core.specs.Puts.{put_call, next_ref, props_of, MayGo, AreBytes, IsPrepared}
-use Rattle.repo_core.specs.Standing.{ImageBeforeOrAfter}
+use Rattle.repo_core.specs.Rows.{contents_in}
+use Rattle.repo_core.specs.Stores.{homes_of}
+use Rattle.repo_core.specs.Standing.{ImageBeforeOrAfter, IsHalfway}
 use Rattle.repo_core.proofs.Creatings.{Makes, files_created, files_replaced}
 use Rattle.repo_core.proofs.Puttings.{later_timestamp}
+use Rattle.repo_core.proofs.Halfways.{one_of}
 use Rattle.repo_core.proofs.Givings.{its_props}
-use Rattle.repo_core.proofs.Replacings.{makes, no_old, its_old, no_trash, crash_created, image_replaced}
+use Rattle.repo_core.proofs.Replacings.{makes, no_old, its_old, no_trash, crash_created, tree_created, image_replaced}
 
 module _ {S : Type 0} (content : S → List ℕ) (config : Config) (tree : Tree) (s : State) (store : List ℕ) (upload : Upload) (moment : Moment) (own kept : Own) (staged : Staged S)
     (rows : map.FinMap key_cmp Asset) (a : Agrees config tree rows own s) (may : MayGo config upload.key store) (p : IsPrepared content config tree s store upload moment own kept staged)
@@ -68,6 +73,15 @@ module _ {S : Type 0} (content : S → List ℕ) (config : Config) (tree : Tree)
   crash_one clock lists d0 d1 d2 before same settled first second =
       crash_created config tree s a.files upload blob new_one refl later staged.new p.new p.free clock lists d0 d1 d2 store (put_call upload moment) after (reply.Stored staged.new.asset) before bytes
       put_outcome refl refl same settled first second
+
+  -- stopped while they are shown, the put leaves files and rows as before or after
+  pub halfway_one : (before now : Tree) → Same tree before → IsCreatedIn staged.new.files.place bytes staged.new.text.items before now
+      → (rows_now : map.FinMap key_cmp Asset) → (rows_now ≡ s.rows) ⊎ (rows_now ≡ map.insert s.rows key new_one) → IsHalfway config s store (put_call upload moment) now rows_now
+  halfway_one before now same created rows_now rows_are = record {
+    files = one_of config s store (put_call upload moment) (λ (t : State). HasContents (homes_of config) (contents_in t.rows) now) after (reply.Stored staged.new.asset) put_outcome refl
+        (tree_created config tree s a.files upload blob new_one refl later staged.new p.new p.free before now bytes same created);
+    rows_are = one_of config s store (put_call upload moment) (λ (t : State). rows_now ≡ t.rows) after (reply.Stored staged.new.asset) put_outcome refl rows_are;
+  }
 
   module _ (before mid : Tree) (same : Same tree before) (its_bytes : mid (bytes_at staged.new.files.place) ≡ Some bytes) (its_text : mid (props_at staged.new.files.place) ≡ Some staged.new.text.items)
       (rest : RestOfPlace staged.new.files.place before mid) where
@@ -153,3 +167,22 @@ module _ {S : Type 0} (content : S → List ℕ) (config : Config) (tree : Tree)
             image_replaced config tree s a.files upload blob new_one refl later staged.new p.new p.free mid made old.0 old.1 old.2.props was text start l settled
                 (with_mark old.2.props (codes "Replaced") at, old.2.says, refl) at_text image here,
           )) second)
+
+      -- stopped while it is marked, the put leaves the files as after
+      pub halfway_two : (now : Tree) → (now (props_at mark.files.place) ≡ mid (props_at mark.files.place)) ⊎ (now (props_at mark.files.place) ≡ Some (content mark.file)) → Rest (props_at mark.files.place) mid now
+          → (rows_now : map.FinMap key_cmp Asset) → (rows_now ≡ s.rows) ⊎ (rows_now ≡ map.insert s.rows key new_one) → IsHalfway config s store (put_call upload moment) now rows_now
+      halfway_two now either others rows_now rows_are =
+          let put : MayPut (props_name old.0.blob) (Some text) (alone mid) (alone now) = alone_put (props_name old.0.blob) (Some text) mid now
+          (⊎_elim (λ stays. inl (ap now (sym name_is) ∙ stays ∙ ap mid name_is)) (λ is_new. inr (ap now (sym name_is) ∙ is_new ∙ ap (λ (t : List ℕ). Some t) old.2.content_is)) either)
+          (λ n out other. others n out (λ e. other (e ∙ name_is))) in
+          record {
+            files = inr (
+              reply.Stored staged.new.asset,
+              after,
+              put_outcome,
+              refl,
+              image_replaced config tree s a.files upload blob new_one refl later staged.new p.new p.free mid made old.0 old.1 old.2.props was text (alone mid) (alone now) (alone_settled mid)
+                  (with_mark old.2.props (codes "Replaced") at, old.2.says, refl) put now (alone_image now),
+            );
+            rows_are = one_of config s store (put_call upload moment) (λ (t : State). rows_now ≡ t.rows) after (reply.Stored staged.new.asset) put_outcome refl rows_are;
+          }

@@ -24,6 +24,7 @@ use Rattle.blob_properties.specs.Readable.{Readable, readable_of, marked_text_of
 use Rattle.tree_content.specs.Blobs.{Homes, IsRef, Reads, props_at, props_name}
 use Rattle.tree_content.specs.Contents.{Content, Contents, ContentOf, HasContents, with_content, OldOrNew, OnlyLive}
 use Rattle.tree_content.specs.Files.{SaysMarked}
+use Rattle.tree_content.proofs.Alone.{alone, alone_settled, alone_image, alone_put}
 use Rattle.tree_content.proofs.Names.{outside}
 use Rattle.tree_content.proofs.Blobs.{some_is}
 use Rattle.tree_content.proofs.Changes.{tmp_same, before_or_after}
@@ -35,7 +36,8 @@ use Rattle.repo_core.specs.Stores.{homes_of}
 use Rattle.repo_core.specs.Rows.{content_in, contents_in}
 use Rattle.repo_core.specs.Agree.{FilesAgree, Agrees}
 use Rattle.repo_core.specs.Marks.{IsMarkOf}
-use Rattle.repo_core.specs.Standing.{ImageBeforeOrAfter, is_done}
+use Rattle.repo_core.specs.Standing.{ImageBeforeOrAfter, IsHalfway, is_done}
+use Rattle.repo_core.proofs.Halfways.{one_of}
 use Rattle.repo_core.proofs.Samenesses.{files_same}
 use Rattle.repo_core.proofs.Markings.{Marks, cut_contents, files_marked}
 
@@ -133,6 +135,27 @@ module _ (config : Config) (tree : Tree) (s : State) (a : FilesAgree config tree
           (λ gone. inr (said, after, step, done, subst (λ (r : map.FinMap key_cmp Asset). HasContents homes (contents_in r) image) (sym rows) gone))
           (image_marked start l settled put image is))
           (put_is clock lists old mid new first second)
+
+      -- so has the tree, where the mark may have been put
+      pub tree_marked : (mid new : Tree) → Same tree mid → (new (props_at mark.files.place) ≡ mid (props_at mark.files.place)) ⊎ (new (props_at mark.files.place) ≡ Some (content mark.file)) → Rest (props_at mark.files.place) mid new
+          → HasContents homes (contents_in s.rows) new ⊎ HasContents homes (contents_in (map.remove s.rows key)) new
+      tree_marked mid new same either rest =
+          let put : MayPut (props_name blob) (Some text) (alone tree) (alone new) = alone_put (props_name blob) (Some text) tree new
+          (⊎_elim
+          (λ was. inl (ap new (sym name_is) ∙ was ∙ ap mid name_is ∙ same (props_name blob) (outside blob Properties ref)))
+          (λ is. inr (ap new (sym name_is) ∙ is ∙ ap (λ (t : List ℕ). Some t) staged.content_is)) either)
+          (λ n out other. rest n out (λ e. other (e ∙ name_is)) ∙ same n out) in
+          image_marked (alone tree) (alone new) (alone_settled tree) put new (alone_image new)
+
+      -- stopped while it is put, the deletion leaves files and rows as before or after
+      pub halfway_marked : (mid new : Tree) → Same tree mid → (new (props_at mark.files.place) ≡ mid (props_at mark.files.place)) ⊎ (new (props_at mark.files.place) ≡ Some (content mark.file)) → Rest (props_at mark.files.place) mid new
+          → (after : State) (said : Reply) → outcome config s [] c ≡ answered after said → IsTrue (is_done said) → after.rows ≡ map.remove s.rows key
+          → (rows : map.FinMap key_cmp Asset) → (rows ≡ s.rows) ⊎ (rows ≡ map.remove s.rows key) → IsHalfway config s [] c new rows
+      halfway_marked mid new same either rest after said step done after_is rows rows_are = record {
+        files = one_of config s [] c (λ (t : State). HasContents homes (contents_in t.rows) new) after said step done
+            (⊎_elim (λ before. inl before) (λ gone. inr (subst (λ (r : map.FinMap key_cmp Asset). HasContents homes (contents_in r) new) (sym after_is) gone)) (tree_marked mid new same either rest));
+        rows_are = one_of config s [] c (λ (t : State). rows ≡ t.rows) after said step done (⊎_elim (λ before. inl before) (λ gone. inr (gone ∙ sym after_is)) rows_are);
+      }
 
       -- what the mark has done to the files
       pub marks_done : (mid new : Tree) → Same tree mid → new (props_at mark.files.place) ≡ Some (content mark.file) → Rest (props_at mark.files.place) mid new

@@ -28,6 +28,7 @@ pub mod Whys
 pub mod Rests
 pub mod GivenUp
 pub mod Texts
+pub mod Halfways
 pub mod Keepings
 pub mod Works
 pub mod Returnings

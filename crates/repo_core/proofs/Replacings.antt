@@ -26,13 +26,13 @@ use Rattle.disk_model.proofs.Images.{settled_same}
 use Rattle.blob_properties.specs.Props.{Props}
 use Rattle.tree_content.specs.Blobs.{Homes, Reads, bytes_at, props_at, props_name}
 use Rattle.tree_content.specs.Contents.{Content, Contents, ContentOf, HasContents, OldOrBlob, OldOrNew, IsNoContent, IsFrom, content_of, with_content}
-use Rattle.tree_content.specs.Files.{RestOfPlace, Creates, SaysMarked}
+use Rattle.tree_content.specs.Files.{RestOfPlace, Creates, SaysMarked, IsCreatedIn}
 use Rattle.blob_paths.specs.declared.ending.Ending.TheVariants.{Properties}
 use Rattle.tree_content.proofs.Names.{outside}
 use Rattle.repo_core.proofs.Maps.{set_at, set_beside}
 use Rattle.tree_content.proofs.Blobs.{some_is, none_or_some, same_or_other_key, absent_is_not_live}
 use Rattle.tree_content.proofs.Changes.{before_or_after, newest_timestamp, gained_beside, one_content}
-use Rattle.tree_content.proofs.Images.{creating, marking_unnamed}
+use Rattle.tree_content.proofs.Images.{created_tree, creating, marking_unnamed}
 use Rattle.tree_content.proofs.Naming.{other_files}
 use Rattle.repo_core.specs.declared.staging.NewBlob.{NewBlob}
 use Rattle.repo_core.specs.declared.marking.Mark.{Mark}
@@ -138,6 +138,16 @@ module _ (config : Config) (tree : Tree) (s : State) (a : FilesAgree config tree
       let told : OldOrNew homes before key (Some (content_of blob its)) image = subst (λ (r : Option Props). OldOrBlob homes before blob r image) new.says may in
       ⊎_elim (λ old. inl old) (λ now_it. inr (contents_ext homes changed (contents_in rows) image same_rows now_it))
       (before_or_after homes before image key (Some (content_of blob its)) (contents_in s.rows) told (same_contents config tree s a before same))
+
+  -- the tree where they may have been shown
+  pub tree_created : (before after : Tree) (bytes : List ℕ) → Same tree before → IsCreatedIn made.files.place bytes made.text.items before after
+      → HasContents homes (contents_in s.rows) after ⊎ HasContents homes (contents_in rows) after
+  tree_created before after bytes same created =
+      let here = subst (λ (p : List ℕ). IsCreatedIn p bytes made.text.items before after) new.place_is created in
+      let free_there : before (props_name blob) ≡ None = same (props_name blob) (outside blob Properties new.ref) ∙ free in
+      let told : OldOrNew homes before key (Some (content_of blob its)) after = subst (λ (r : Option Props). OldOrBlob homes before blob r after) new.says (created_tree homes blob new.ref before after bytes made.text.items free_there here) in
+      ⊎_elim (λ old. inl old) (λ now_it. inr (contents_ext homes changed (contents_in rows) after same_rows now_it))
+      (before_or_after homes before after key (Some (content_of blob its)) (contents_in s.rows) told (same_contents config tree s a before same))
 
   module _ (mid : Tree) (m : Makes config tree mid key blob its) where
     reads_now : Reads mid blob its

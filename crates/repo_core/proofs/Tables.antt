@@ -1,5 +1,5 @@
 -- What a keeper that still tells has told.
-use Rattle.std.proofs.Common.{◌≡◌, Option, Some, None, IsSome, is_some, refl, sym, ◌∙◌, ap}
+use Rattle.std.proofs.Common.{◌≡◌, ◌⊎◌, inl, inr, ⊎_elim, Option, Some, None, IsSome, is_some, refl, sym, ◌∙◌, ap}
 use Rattle.std.specs.FinMap as map
 use Rattle.nx_base.specs.Order.{key_cmp}
 use Rattle.nx_base.specs.declared.key.Key.{Key}
@@ -52,3 +52,14 @@ tells_then P Q R old mid None f first second = tt
 tells_then P Q R old None (Some u) f first second = absurd second
 tells_then P Q R None (Some t) (Some u) f first second = absurd first
 tells_then P Q R (Some s) (Some t) (Some u) f first second = f s t u first second
+
+-- the rows where a call that changes nothing was made, and then one that may have made the change
+pub rows_either : (old mid new : Option Table) (c : Change) (rows : map.FinMap key_cmp Asset) (P : map.FinMap key_cmp Asset → map.FinMap key_cmp Asset) → ((t : Table) → (changed t c).rows ≡ P t.rows) → IsSome new
+    → Tells old mid (λ s t. t ≡ s) → Tells mid new (λ t u. (u ≡ t) ⊎ (u ≡ changed t c)) → rows_in old ≡ rows → (rows_in new ≡ rows) ⊎ (rows_in new ≡ P rows)
+rows_either old mid new c rows P does some first second is =
+    let Q : Table → Table → Type 0 = λ t u. (u ≡ t) ⊎ (u ≡ changed t c) in
+    let w = told_of Q mid new some second in
+    let was : w.before.rows ≡ rows = sym (ap rows_in w.was) ∙ rows_same old mid (still_told Q mid new some second) first ∙ is in
+    ⊎_elim
+    (λ same. inl (ap rows_in w.is ∙ ap (λ (t : Table). t.rows) same ∙ was))
+    (λ made. inr (ap rows_in w.is ∙ ap (λ (t : Table). t.rows) made ∙ does w.before ∙ ap P was)) w.holds

@@ -22,7 +22,7 @@ ghost use Rattle.repo_core.specs.Rows.{rows_in};
 ghost use Rattle.repo_core.specs.Agree.{Agrees};
 ghost use Rattle.repo_core.specs.Faults.{IsDisk, IsKeeper, DeniedBy, StoppedBy, refusal_for, refusal_of_stop};
 ghost use Rattle.repo_core.specs.Answers.{is_denied, is_broke};
-ghost use Rattle.repo_core.specs.Standing.{IsDurable, ImageBeforeOrAfter};
+ghost use Rattle.repo_core.specs.Standing.{IsDurable, ImageBeforeOrAfter, IsHalfway};
 ghost use Rattle.repo_core.specs.Ends.{MayDelete, Ends};
 ghost use Rattle.repo_core.specs.Stays.{BytesStay};
 ghost use Rattle.repo_core.specs.Asks.{Discards, TouchesRow, RemovesRow};
@@ -137,6 +137,7 @@ fn show<D: Disk, T: Keeper>(
 ) -> Result<(), Fault>
     requires { IsTrue (change_in_range change.now) }
     ensures named { D.told → OnOk result (D.tree disk.new (props_at mark.files.place) ≡ Some (D.Writer.content mark.file)) }
+    ensures refused { D.told → OnErr result ((D.tree disk.new (props_at mark.files.place) ≡ D.tree disk.old (props_at mark.files.place)) ⊎ (D.tree disk.new (props_at mark.files.place) ≡ Some (D.Writer.content mark.file))) }
     ensures rest { D.told → Rest (props_at mark.files.place) (D.tree disk.old) (D.tree disk.new) }
     ensures settled { D.told → OnOk result (D.lists disk.new (D.clock disk.new) (props_at mark.files.place) ≡ Some (D.Writer.content mark.file) ∷ []) }
     ensures any_moment { D.told → During D.clock D.lists disk.old disk.new (MayPut (props_at mark.files.place) (Some (D.Writer.content mark.file)) (D.lists disk.old (D.clock disk.old))) }
@@ -175,6 +176,9 @@ pub(crate) fn give_up_row<D: Disk, T: Keeper>(
     ensures crash { D.told → IsSome (T.table table.new) → (s : State) → Agrees (config_of config.now) (D.tree disk.old) (rows_in (T.table table.old)) own.old s
         → IsDurable D.tree D.clock D.lists disk.old
         → During D.clock D.lists disk.old disk.new (EachImage (ImageBeforeOrAfter (config_of config.now) s [] (call.Delete key.now now))) }
+    // Stopped halfway, it leaves the tree and the rows as before or after.
+    ensures halfway { D.told → IsSome (T.table table.new) → (s : State) → Agrees (config_of config.now) (D.tree disk.old) (rows_in (T.table table.old)) own.old s
+        → is_broke result ≡ true → IsHalfway (config_of config.now) s [] (call.Delete key.now now) (D.tree disk.new) (rows_in (T.table table.new)) }
     ensures durable { D.told → is_broke result ≡ false → IsDurable D.tree D.clock D.lists disk.old → IsDurable D.tree D.clock D.lists disk.new }
     // The blob's properties say when and why it was deleted, and else what they said.
     ensures marked { D.told → IsSome (T.table table.new) → (s : State) (asset : Asset) → Agrees (config_of config.now) (D.tree disk.old) (rows_in (T.table table.old)) own.old s → row_of s key.now ≡ Some asset

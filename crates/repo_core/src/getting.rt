@@ -1,4 +1,4 @@
-ghost use Rattle.std.specs.Prelude.{◌≡◌, ◌≢◌, ◌⊎◌, ◌<◌, ◌^◌, ℕ, Option, Some, None, true, false, IfOk, IfErr, OnOk, IsErrOf, IsSome, IsTrue};
+ghost use Rattle.std.specs.Prelude.{◌≡◌, ◌≢◌, ◌⊎◌, ◌<◌, ◌^◌, [], ℕ, Option, Some, None, true, false, IfOk, IfErr, OnOk, IsErrOf, IsSome, IsTrue};
 ghost use Rattle.std.specs.FinMap as map;
 ghost use Rattle.nx_io.specs.Causes.{Rose, HasCauseWhere};
 ghost use Rattle.disk_model.specs.Disk.{Same};
@@ -25,6 +25,7 @@ ghost use Rattle.repo_core.specs.Faults.{IsDisk, IsKeeper, DeniedBy, StoppedBy, 
 ghost use Rattle.repo_core.specs.Answers.{is_denied, is_broke};
 ghost use Rattle.repo_core.specs.Asks.{SetsRow};
 ghost use Rattle.repo_core.specs.Ends.{Ends};
+ghost use Rattle.repo_core.specs.Standing.{BeforeOrAfter};
 ghost use Rattle.repo_core.specs.Got.{IsGotFor, GotOpened, GotFile, GotContent};
 ghost use Rattle.repo_core.specs.Looking.{MayGet, NotOpened, IfDenied, got_given};
 ghost use Rattle.repo_core.specs.Why.{WhyNotGiven};
@@ -85,6 +86,7 @@ fn serve<D: Disk, T: Keeper>(
     ensures denied { IfDenied result (NotOpened D.told (D.tree disk.old) asset (D.last_look disk.new)) }
     ensures rows { Tells (T.table table.old) (T.table table.new) (λ s t. OnOk result (map.get s.rows key.now ≡ Some asset → t.rows ≡ map.insert s.rows key.now (downloaded asset at))) }
     ensures table { Tells (T.table table.old) (T.table table.new) (λ s t. (t ≡ s) ⊎ SetsRow key.now s t) }
+    ensures between { Tells (T.table table.old) (T.table table.new) (λ s t. (t ≡ s) ⊎ (map.get s.rows key.now ≡ Some asset → t.rows ≡ map.insert s.rows key.now (downloaded asset at))) }
     ensures clean_rows { Tells (T.table table.old) (T.table table.new) (λ s t. is_denied result ≡ true → t ≡ s) }
     ensures changed { is_broke result ≡ true → Rose (T.changes table.old) (T.changes table.new) }
     ensures unchanged { is_denied result ≡ true → T.changes table.new ≡ T.changes table.old }
@@ -132,6 +134,9 @@ pub(crate) fn give<D: Disk, T: Keeper>(
     // What it comes to is what the step says.
     ensures ends { D.told → IsSome (T.table table.new) → (own : Own) (s : State) → Agrees (config_of config.now) (D.tree disk.old) (rows_in (T.table table.old)) own s
         → Ends (config_of config.now) s (call.Get key.now look moment.entry.now remote.NotAsked) (λ given. reply.Found given.copy) (Agrees (config_of config.now) (D.tree disk.new) (rows_in (T.table table.new)) own) result }
+    // Stopped halfway, it leaves the rows as before or after.
+    ensures halfway { D.told → IsSome (T.table table.new) → (own : Own) (s : State) → Agrees (config_of config.now) (D.tree disk.old) (rows_in (T.table table.old)) own s
+        → is_broke result ≡ true → BeforeOrAfter (config_of config.now) s [] (call.Get key.now look moment.entry.now remote.NotAsked) (λ t. rows_in (T.table table.new) ≡ t.rows) }
     // The files stay.
     ensures tree { D.told → D.tree disk.new ≡ D.tree disk.old }
     ensures any_moment { D.told → During D.clock D.lists disk.old disk.new (Same (D.lists disk.old (D.clock disk.old))) }

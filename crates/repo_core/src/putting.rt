@@ -17,14 +17,14 @@ ghost use Rattle.asset_keeper.specs.Table.{changed};
 ghost use Rattle.asset_keeper.specs.Told.{Tells, Lasts};
 ghost use Rattle.asset_keeper.specs.Ranges.{change_in_range};
 ghost use Rattle.tree_content.specs.Blobs.{bytes_at, props_at, bytes_name, props_name};
-ghost use Rattle.tree_content.specs.Files.{RestOfPlace, Creates};
+ghost use Rattle.tree_content.specs.Files.{RestOfPlace, Creates, IsCreatedIn};
 ghost use Rattle.repo_core.specs.Faults.{IsDisk, IsKeeper, DeniedBy, StoppedBy, refusal_for, refusal_of_stop};
 ghost use Rattle.repo_core.specs.Why.{WhyNotPut, keeps_rows};
 ghost use Rattle.repo_model.specs.Timestamps.{greatest_time, next_timestamp, time_of};
 ghost use Rattle.repo_core.specs.Marks.{HasMark, HasOld, HasProps};
 ghost use Rattle.blob_properties.specs.Readable.{Readable};
 ghost use Rattle.repo_core.specs.Answers.{is_denied, is_broke};
-ghost use Rattle.repo_core.specs.Standing.{IsDurable, ImageBeforeOrAfter};
+ghost use Rattle.repo_core.specs.Standing.{IsDurable, ImageBeforeOrAfter, IsHalfway};
 ghost use Rattle.repo_core.specs.Ends.{EndsAt};
 ghost use Rattle.repo_model.specs.declared.reply.Reply.TheVariants as reply;
 
@@ -61,6 +61,7 @@ fn show_new<D: Disk, T: Keeper>(
     ensures bytes { D.told → OnOk result (D.tree disk.new (bytes_at new.now.files.place) ≡ Some (D.Writer.content file)) }
     ensures props { D.told → OnOk result (D.tree disk.new (props_at new.now.files.place) ≡ Some new.now.text.items) }
     ensures rest { D.told → RestOfPlace new.now.files.place (D.tree disk.old) (D.tree disk.new) }
+    ensures created { D.told → D.tree disk.old (props_at new.now.files.place) ≡ None → IsCreatedIn new.now.files.place (D.Writer.content file) new.now.text.items (D.tree disk.old) (D.tree disk.new) }
     ensures bytes_settled { D.told → OnOk result (D.lists disk.new (D.clock disk.new) (bytes_at new.now.files.place) ≡ Some (D.Writer.content file) ∷ []) }
     ensures props_settled { D.told → OnOk result (D.lists disk.new (D.clock disk.new) (props_at new.now.files.place) ≡ Some new.now.text.items ∷ []) }
     ensures any_moment { D.told → During D.clock D.lists disk.old disk.new (Creates new.now.files.place (D.Writer.content file) new.now.text.items (D.lists disk.old (D.clock disk.old))) }
@@ -168,6 +169,10 @@ pub(crate) fn put_content<D: Disk, T: Keeper>(
     ensures crash { D.told → IsSome (T.table table.new) → MayGo (config_of config.now) upload.now.key store.now → AreBytes upload.now (D.Writer.content file)
         → (s : State) → Agrees (config_of config.now) (D.tree disk.old) (rows_in (T.table table.old)) own.old s → IsDurable D.tree D.clock D.lists disk.old
         → During D.clock D.lists disk.old disk.new (EachImage (ImageBeforeOrAfter (config_of config.now) s store.now (put_call upload.now moment.entry.now))) }
+    // Stopped halfway, it leaves the tree and the rows as before or after.
+    ensures halfway { D.told → IsSome (T.table table.new) → MayGo (config_of config.now) upload.now.key store.now → AreBytes upload.now (D.Writer.content file)
+        → (s : State) → Agrees (config_of config.now) (D.tree disk.old) (rows_in (T.table table.old)) own.old s
+        → is_broke result ≡ true → IsHalfway (config_of config.now) s store.now (put_call upload.now moment.entry.now) (D.tree disk.new) (rows_in (T.table table.new)) }
     ensures durable { D.told → is_broke result ≡ false → IsDurable D.tree D.clock D.lists disk.old → IsDurable D.tree D.clock D.lists disk.new }
     // The new blob's properties say what was put, and those of the blob that the key had, when and why it was replaced.
     ensures says { D.told → IfOk result (λ kept. HasProps (D.tree disk.new) kept.asset.blob (props_of upload.now kept.asset.blob.timestamp)) }

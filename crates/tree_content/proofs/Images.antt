@@ -25,6 +25,16 @@ same_or_blob : (homes : Homes) (tree : Tree) (blob : BlobRef) (image : Tree) (re
 same_or_blob homes tree blob image None same = same
 same_or_blob homes tree blob image (Some props) same = λ key content has. inl ((same key content).0 has)
 
+-- a tree with no properties file, or both files whole, where no properties stood, has the contents, or the blob for its key
+pub created_tree : (homes : Homes) (blob : BlobRef) → IsRef blob → (tree image : Tree) (bytes text : List ℕ) → tree (props_name blob) ≡ None → IsCreatedIn (place_of blob) bytes text tree image
+    → OldOrBlob homes tree blob (readable_of text) image
+created_tree homes blob ref tree image bytes text free created =
+    let was = absent_is_not_live homes tree blob free in
+    elim created.1 [
+      | inl none ↦ same_or_blob homes tree blob image (readable_of text) (kept homes blob ref tree image created.0 was (absent_is_not_live homes image blob none))
+      | inr both ↦ gained_text homes blob ref tree image created.0 text was both.0
+    ]
+
 module _ (homes : Homes) (blob : BlobRef) (ref : IsRef blob) (tree : Tree) (first now : Lists) (settled : Settled tree first) where
   -- while a marked text is put, each image has the contents, or lost the blob
   pub marking : (text : List ℕ) → SaysMarked text → MayPut (props_name blob) (Some text) first now → EachImage (OldOrLost homes tree blob) now
@@ -72,13 +82,7 @@ module _ (homes : Homes) (blob : BlobRef) (ref : IsRef blob) (tree : Tree) (firs
 
   -- each of them has the contents, or the blob for its key
   pub creating : (bytes text : List ℕ) → tree (props_name blob) ≡ None → Creates (place_of blob) bytes text first now → EachImage (OldOrBlob homes tree blob (readable_of text)) now
-  creating bytes text free creates image is =
-      let was = absent_is_not_live homes tree blob free in
-      let created = created_in bytes text free creates image is in
-      elim created.1 [
-        | inl none ↦ same_or_blob homes tree blob image (readable_of text) (kept homes blob ref tree image created.0 was (absent_is_not_live homes image blob none))
-        | inr both ↦ gained_text homes blob ref tree image created.0 text was both.0
-      ]
+  creating bytes text free creates image is = created_tree homes blob ref tree image bytes text free (created_in bytes text free creates image is)
 
 -- the tree with another value at one name
 module _ (name : List ℕ) (tree : Tree) (value : Option (List ℕ)) where

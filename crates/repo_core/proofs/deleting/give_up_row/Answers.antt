@@ -29,10 +29,10 @@ use Rattle.repo_core.specs.Faults.{of_disk}
 use Rattle.repo_core.proofs.Steps.{fault_denies}
 use Rattle.repo_core.proofs.Answering.{tells_map}
 use Rattle.repo_core.proofs.Rests.{rest_put, rest_quiet, rest_still, rest_then, same_then_changed}
-use Rattle.repo_core.proofs.Tables.{rows_same, rows_changed, still_told, tells_then}
+use Rattle.repo_core.proofs.Tables.{rows_same, rows_changed, rows_either, still_told, tells_then}
 use Rattle.repo_core.proofs.Runs.{nothing_ran, at_end}
 use Rattle.repo_core.proofs.Stays.{stay_same, stay_marked}
-use Rattle.repo_core.proofs.Givings.{crash_same, crash_marked, marks_done, agrees_same, agrees_gone, is_readable}
+use Rattle.repo_core.proofs.Givings.{crash_same, crash_marked, halfway_marked, marks_done, agrees_same, agrees_gone, is_readable}
 use Rattle.repo_core.proofs.Whys.{failed_delete, unstaged_delete}
 use Rattle.repo_core.proofs.Texts.{has_mark, row_marked}
 use Rattle.repo_core.proofs.deleting.give_up_row.Goals as goal
@@ -280,3 +280,20 @@ returns-clause-keeps g c = λ moment is made. (
   c.in-Ok.asset,
   c.in-Ok-stage.ensures.trash ∙ ap (λ (t : ℕ). record c.args.own.now { trash = discarded c.args.own.now.trash c.args.key.now c.in-Ok.asset t }) (c.time.ensures ∙ ap time_of (sym is)),
 )
+
+pub returns-clause-halfway : goal.returns-clause-halfway
+returns-clause-halfway g c = λ told some s a broke.
+    let config = config_of c.args.config.now in
+    let tree = g.D.Disk.tree in
+    let table = g.T.Keeper.table in
+    let key = c.args.key.now in
+    let at = time_of c.args.now in
+    let mark = c.in-Ok-stage.staged.mark in
+    let told_rows : Tells (table c.row_to_delete.new.table) (table c.show.new.table) (λ t u. (u ≡ t) ⊎ (u ≡ changed t (change.Remove key))) =
+    subst (λ (ch : Change). Tells (table c.row_to_delete.new.table) (table c.show.new.table) (λ t u. (u ≡ t) ⊎ (u ≡ changed t ch))) c.in-Ok-stage.ensures.change c.show.ensures.table in
+    let here = still_told (λ t u. (u ≡ t) ⊎ (u ≡ changed t (change.Remove key))) (table c.row_to_delete.new.table) (table c.show.new.table) some told_rows in
+    let may = c.in-Ok.ensures.row here s a.sound a.rows_are in
+    halfway_marked config (tree c.args.disk.now) s a.files key c.in-Ok.asset may.0 (call.Delete key c.args.now) g.D.Writer.Writer.content deleted at mark (subst (λ (t : ℕ). IsMarkOf g.D.Writer.Writer.content (tree c.args.disk.now) c.in-Ok.asset.blob deleted t mark) c.time.ensures (c.in-Ok-stage.ensures.mark told))
+    (tree c.stage.new.disk) (tree c.show.new.disk) (c.stage.ensures.tree told) (c.in-Err-show.ensures.refused told) (c.show.ensures.rest told)
+    (without_row s key c.in-Ok.asset at) reply.Gone may.1 refl refl (rows_in (table c.show.new.table))
+    (rows_either (table c.args.table.now) (table c.row_to_delete.new.table) (table c.show.new.table) (change.Remove key) s.rows (λ (r : map.FinMap key_cmp Asset). map.remove r key) (λ t. refl) some c.row_to_delete.ensures.same told_rows a.rows_are)

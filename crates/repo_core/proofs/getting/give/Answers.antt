@@ -10,12 +10,15 @@ use Rattle.repo_model.specs.declared.call.RemoteSaid.TheVariants as remote
 use Rattle.repo_model.specs.declared.reply.Reply.TheVariants as reply
 use Rattle.repo_model.specs.Plain.{config_of}
 use Rattle.repo_model.specs.Serving.{downloaded, served}
+use Rattle.repo_model.specs.Timestamps.{time_of}
+use Rattle.repo_model.specs.State.{State}
 use Rattle.repo_model.specs.Step.{outcome}
 use Rattle.repo_core.specs.Answers.{is_denied}
 use Rattle.repo_core.specs.Agree.{Agrees}
 use Rattle.repo_core.specs.Ends.{Ends}
 use Rattle.repo_core.specs.Rows.{rows_in}
 use Rattle.repo_core.proofs.Givings.{agrees_same}
+use Rattle.repo_core.proofs.Halfways.{one_of, rows_between}
 use Rattle.repo_core.proofs.Serving.{ends_served, never_damaged, served_content}
 use Rattle.repo_core.proofs.Tables.{rows_same, still_told, tells_then}
 use Rattle.repo_core.specs.Faults.{refusal_of_stop}
@@ -117,3 +120,19 @@ returns-in-Ok-known-clause-table g c =
 pub returns-in-Err-known-clause-table : goal.returns-in-Err-known-clause-table
 returns-in-Err-known-clause-table g c =
     tells_map (λ s t. t ≡ s) (λ s t. (t ≡ s) ⊎ SetsRow c.args.key.now s t) (g.T.Keeper.table c.args.table.now) (g.T.Keeper.table c.row_to_give.new.table) (λ s t same. inl same) c.row_to_give.ensures.same
+
+pub returns-in-Get-clause-halfway : goal.returns-in-Get-clause-halfway
+returns-in-Get-clause-halfway g c = λ told some own s a broke.
+    let config = config_of c.args.config.now in
+    let table = g.T.Keeper.table in
+    let key = c.args.key.now in
+    let moment = c.args.moment.now in
+    let asset = c.in-Ok.asset in
+    let seen = downloaded asset (time_of moment.now) in
+    let mid_some = still_told (λ t u. is_denied c.serve.result ≡ true → u ≡ t) (table c.row_to_give.new.table) (table c.serve.new.table) some c.serve.ensures.clean_rows in
+    let may = c.in-Ok.ensures.row mid_some s c.args.look moment a.sound a.rows_are in
+    one_of config s [] (call.Get key c.args.look moment remote.NotAsked) (λ (t : State). rows_in (table c.serve.new.table) ≡ t.rows) (record s { rows = map.insert s.rows key seen }) (reply.Found seen)
+    (may.1 ∙ ap (λ (l : Look). served s key l moment.now asset) c.in-Get.is) refl
+    (rows_between (table c.args.table.now) (table c.row_to_give.new.table) (table c.serve.new.table) key asset seen s.rows some c.row_to_give.ensures.same
+    (subst (λ (at : ℕ). Tells (table c.row_to_give.new.table) (table c.serve.new.table) (λ t u. (u ≡ t) ⊎ (map.get t.rows key ≡ Some asset → u.rows ≡ map.insert t.rows key (downloaded asset at)))) c.time.ensures c.serve.ensures.between)
+    a.rows_are may.0)

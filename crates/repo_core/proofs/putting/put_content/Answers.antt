@@ -1,4 +1,4 @@
-use Rattle.std.proofs.Common.{◌≡◌, ◌⊎◌, inl, inr, ℕ, Bool, ◌&&◌, Option, Some, None, codes, OnOk, Err, refl, sym, ◌∙◌, ap, subst, arith, true≢false}
+use Rattle.std.proofs.Common.{◌≡◌, ◌⊎◌, inl, inr, ℕ, List, Bool, ◌&&◌, Option, Some, None, codes, OnOk, Err, refl, sym, ◌∙◌, ap, subst, arith, true≢false}
 use Rattle.std.specs.FinMap as map
 use Rattle.nx_base.specs.Order.{key_cmp}
 use Rattle.nx_base.specs.declared.asset.Asset.{Asset}
@@ -23,14 +23,15 @@ use Rattle.repo_core.specs.Asks.{TouchesNew, SetsRow}
 use Rattle.repo_core.specs.Devices.{devices}
 use Rattle.repo_core.specs.Marks.{HasOld}
 use Rattle.repo_core.specs.Puts.{put_call, props_of, IsPrepared}
-use Rattle.repo_core.proofs.Tables.{rows_same, rows_changed, still_told, tells_then}
+use Rattle.repo_core.proofs.Tables.{rows_same, rows_changed, rows_either, still_told, tells_then}
 use Rattle.repo_core.proofs.Runs.{at_end, still_same}
 use Rattle.repo_core.proofs.Rises.{stopped_by_disk, not_by_keeper}
 use Rattle.repo_core.proofs.Stays.{bytes_apart, stay_same, stay_marked, stay_made, at_blob}
 use Rattle.repo_core.proofs.Givings.{crash_same, agrees_same}
 use Rattle.repo_core.proofs.Replacings.{settled_created, no_old, its_old}
-use Rattle.repo_core.proofs.Endings.{new_one, crash_one, crash_two, put_first, put_again}
+use Rattle.repo_core.proofs.Endings.{new_one, crash_one, crash_two, halfway_one, halfway_two, put_first, put_again}
 use Rattle.repo_core.proofs.GivenUp.{made_still}
+use Rattle.repo_core.proofs.Halfways.{created_still}
 use Rattle.repo_core.proofs.Whys.{failed_put}
 use Rattle.repo_core.proofs.Texts.{has_mark, has_props, row_marked, still_has_props}
 use Rattle.repo_core.proofs.Answering.{tells_map}
@@ -489,3 +490,45 @@ pub returns-in_default-mark-clause-clean_rows : goal.returns-in_default-mark-cla
 returns-in_default-mark-clause-clean_rows g c =
     tells_then _ _ _ (g.T.Keeper.table c.args.table.now) (g.T.Keeper.table c.prepare.new.table) (g.T.Keeper.table c.show_new.new.table)
     (λ s t u first second denied. absurd (true≢false (sym denied))) c.prepare.ensures.rows c.in_default.ensures.rows
+
+pub returns-in-Err-show_new-clause-halfway : goal.returns-in-Err-show_new-clause-halfway
+returns-in-Err-show_new-clause-halfway g c = λ told some may are s a broke.
+    let config = config_of c.args.config.now in
+    let tree = g.D.Disk.tree in
+    let table = g.T.Keeper.table in
+    let staged = c.in-Ok.staged in
+    let content = g.D.Writer.Writer.content in
+    let rows0 = rows_in (table c.args.table.now) in
+    let key = c.args.upload.now.key in
+    let here = still_told (λ t u. (u ≡ t) ⊎ (u ≡ changed t staged.new.change)) (table c.prepare.new.table) (table c.show_new.new.table) some c.show_new.ensures.table in
+    let p : IsPrepared content config (tree c.args.disk.now) s c.args.store.now c.args.upload.now c.args.moment.now c.args.own.now c.prepare.new.own staged = c.in-Ok.ensures.ready told here may s a in
+    let asset = new_one content config (tree c.args.disk.now) s c.args.store.now c.args.upload.now c.args.moment.now c.args.own.now c.prepare.new.own staged rows0 a may p (content c.args.file) are in
+    let setting = change.Set (record { key = key; asset = asset }) in
+    let told_rows = subst (λ (ch : Change). Tells (table c.prepare.new.table) (table c.show_new.new.table) (λ t u. (u ≡ t) ⊎ (u ≡ changed t ch))) p.new.change_is c.show_new.ensures.table in
+    let rows_now = rows_either (table c.args.table.now) (table c.prepare.new.table) (table c.show_new.new.table) setting s.rows (λ (r : map.FinMap key_cmp Asset). map.insert r key asset) (λ t. refl) some c.prepare.ensures.rows told_rows a.rows_are in
+    let free : tree c.prepare.new.disk (props_at staged.new.files.place) ≡ None =
+    c.prepare.ensures.tree told (props_at staged.new.files.place) staged.new.files.properties_outside ∙ ap (λ (place : List ℕ). tree c.args.disk.now (props_at place)) p.new.place_is ∙ p.free in
+    halfway_one content config (tree c.args.disk.now) s c.args.store.now c.args.upload.now c.args.moment.now c.args.own.now c.prepare.new.own staged rows0 a may p (content c.args.file) are
+    (tree c.prepare.new.disk) (tree c.give_up_mark.new.disk) (c.prepare.ensures.tree told)
+    (created_still staged.new.files.place (content c.args.file) staged.new.text.items staged.new.files.bytes_outside staged.new.files.properties_outside (tree c.prepare.new.disk) (tree c.show_new.new.disk) (tree c.give_up_mark.new.disk)
+    (c.show_new.ensures.created told free) (c.give_up_mark.ensures.tree told))
+    (rows_in (table c.show_new.new.table)) rows_now
+
+pub returns-clause-halfway : goal.returns-clause-halfway
+returns-clause-halfway g c = λ told some may are s a broke.
+    let config = config_of c.args.config.now in
+    let tree = g.D.Disk.tree in
+    let table = g.T.Keeper.table in
+    let staged = c.in-Ok.staged in
+    let content = g.D.Writer.Writer.content in
+    let rows0 = rows_in (table c.args.table.now) in
+    let key = c.args.upload.now.key in
+    let here = still_told (λ t u. (u ≡ t) ⊎ (u ≡ changed t staged.new.change)) (table c.prepare.new.table) (table c.show_new.new.table) some c.show_new.ensures.table in
+    let p : IsPrepared content config (tree c.args.disk.now) s c.args.store.now c.args.upload.now c.args.moment.now c.args.own.now c.prepare.new.own staged = c.in-Ok.ensures.ready told here may s a in
+    let asset = new_one content config (tree c.args.disk.now) s c.args.store.now c.args.upload.now c.args.moment.now c.args.own.now c.prepare.new.own staged rows0 a may p (content c.args.file) are in
+    let setting = change.Set (record { key = key; asset = asset }) in
+    let told_rows = subst (λ (ch : Change). Tells (table c.prepare.new.table) (table c.show_new.new.table) (λ t u. (u ≡ t) ⊎ (u ≡ changed t ch))) p.new.change_is c.show_new.ensures.table in
+    let rows_now = rows_either (table c.args.table.now) (table c.prepare.new.table) (table c.show_new.new.table) setting s.rows (λ (r : map.FinMap key_cmp Asset). map.insert r key asset) (λ t. refl) some c.prepare.ensures.rows told_rows a.rows_are in
+    halfway_two content config (tree c.args.disk.now) s c.args.store.now c.args.upload.now c.args.moment.now c.args.own.now c.prepare.new.own staged rows0 a may p (content c.args.file) are
+    (tree c.prepare.new.disk) (tree c.show_new.new.disk) (c.prepare.ensures.tree told) (c.in_default.ensures.bytes told) (c.in_default.ensures.props told) (c.show_new.ensures.rest told)
+    c.in-Some.mark c.in-Some.is (tree c.place.new.disk) (c.in-Err-place.ensures.refused told) (c.place.ensures.rest told) (rows_in (table c.show_new.new.table)) rows_now

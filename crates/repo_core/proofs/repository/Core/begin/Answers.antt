@@ -50,7 +50,7 @@ returns-clause-called g c = rw (← c.self.view_is) (
     called_done on ask old c.note.new.self c.begun-reply.result.1 c.beginning-2.result upload (stopped did.result) (length core.journal.entries)
     (stopped_answers upload begun_or_refused (λ begun. refl) (λ why. refl) did.result c.begun-reply.result.1 c.begun-reply.ensures.answer) free refl
     did.new.disk did.new.table did.new.own core.holds.items None c.note.ensures (breaks_nothing (length core.journal.entries) did.result) (ap (λ (e : Entry). e ∷ []) entry_is)
-    (worked_quietly on ask (config_of core.config) (parts_of old) (parts_of left) (stopped did.result) (λ s image has. inl has) (record { files = at.tree; moments = at.any_moment; shown = at.shown })
+    (worked_quietly on ask (config_of core.config) (parts_of old) (parts_of left) (stopped did.result) (λ s image has. inl has) (λ told some _ s a broke. never_stopped _ did.result broke) (record { files = at.tree; moments = at.any_moment; shown = at.shown })
     (tells_map (λ s t. t ≡ s) (λ s t. (t ≡ s) ⊎ AltersNone s t) (g.T.Keeper.table core.table) (g.T.Keeper.table did.new.table) (λ s t same. inl same) at.rows) (not_denied_counts (Counts (config_of core.config) c.args.begin.key core.own did.new.own) did.result at.counted)
     (tells_map (λ s t. t ≡ s) (λ s t. is_denied (stopped did.result) ≡ true → t ≡ s) (g.T.Keeper.table core.table) (g.T.Keeper.table did.new.table) (λ s t same denied. same) at.rows)
     (if_stopped (did.new.own ≡ core.own) did.result at.clean) (λ broke. never_stopped _ did.result broke) (λ _. at.changes) at.lasting
@@ -80,7 +80,7 @@ returns-clause-survives g c = rw (← c.self.view_is) (
     survives_done on ask old c.note.new.self c.begun-reply.result.1 c.beginning-2.result upload (stopped did.result) (length core.journal.entries)
     (stopped_answers upload begun_or_refused (λ begun. refl) (λ why. refl) did.result c.begun-reply.result.1 c.begun-reply.ensures.answer) free refl
     did.new.disk did.new.table did.new.own core.holds.items None c.note.ensures (breaks_nothing (length core.journal.entries) did.result) (ap (λ (e : Entry). e ∷ []) entry_is)
-    (worked_quietly on ask (config_of core.config) (parts_of old) (parts_of left) (stopped did.result) (λ s image has. inl has) (record { files = at.tree; moments = at.any_moment; shown = at.shown })
+    (worked_quietly on ask (config_of core.config) (parts_of old) (parts_of left) (stopped did.result) (λ s image has. inl has) (λ told some _ s a broke. never_stopped _ did.result broke) (record { files = at.tree; moments = at.any_moment; shown = at.shown })
     (tells_map (λ s t. t ≡ s) (λ s t. (t ≡ s) ⊎ AltersNone s t) (g.T.Keeper.table core.table) (g.T.Keeper.table did.new.table) (λ s t same. inl same) at.rows) (not_denied_counts (Counts (config_of core.config) c.args.begin.key core.own did.new.own) did.result at.counted)
     (tells_map (λ s t. t ≡ s) (λ s t. is_denied (stopped did.result) ≡ true → t ≡ s) (g.T.Keeper.table core.table) (g.T.Keeper.table did.new.table) (λ s t same denied. same) at.rows)
     (if_stopped (did.new.own ≡ core.own) did.result at.clean) (λ broke. never_stopped _ did.result broke) (λ _. at.changes) at.lasting

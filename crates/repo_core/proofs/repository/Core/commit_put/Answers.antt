@@ -53,7 +53,7 @@ returns-clause-called g c = rw (← c.self.view_is) (
     called_done on ask old c.note.new.self c.stored-reply.result.1 c.put-2.result (λ (kept : Kept). kept.asset) did.result c.len.result
     (answers_as (λ (kept : Kept). kept.asset) asset_of (λ kept. refl) (λ why. refl) did.result c.answer_of.result c.stored-reply.result.1 c.answer_of.ensures c.stored-reply.ensures.answer) free c.len.ensures
     did.new.disk did.new.table did.new.own core.holds.items c.cause_of-cause.result c.note.ensures c.cause_of-cause.ensures (ap (λ (e : Entry). e ∷ []) entry_is)
-    (worked_by on ask (config_of core.config) (parts_of old) (parts_of left) did.result (λ told some may. at.crash told some may.0 may.1) at.durable at.stays (λ told some may. at.rest told some may.0) at.table at.keeps at.clean_files at.clean_moments at.clean_rows at.clean_own (λ broke. inl (at.shown broke)) at.unshown at.lasting at.disk_cause at.keeper_cause)
+    (worked_by on ask (config_of core.config) (parts_of old) (parts_of left) did.result (λ told some may. at.crash told some may.0 may.1) (λ told some may. at.halfway told some may.0 may.1) at.durable at.stays (λ told some may. at.rest told some may.0) at.table at.keeps at.clean_files at.clean_moments at.clean_rows at.clean_own (λ broke. inl (at.shown broke)) at.unshown at.lasting at.disk_cause at.keeper_cause)
     (λ told some may s a.
     let asked = put_call (upload_of c.args.ready) c.args.moment in
     let next = next_at (config_of core.config) (length core.journal.entries) c.args.caller s c.args.ready.store asked (λ kept. reply.Stored kept.asset) (StandFor on (config_of core.config) (parts_of left)) did.result
@@ -86,7 +86,7 @@ returns-clause-survives g c = rw (← c.self.view_is) (
     survives_done on ask old c.note.new.self c.stored-reply.result.1 c.put-2.result (λ (kept : Kept). kept.asset) did.result c.len.result
     (answers_as (λ (kept : Kept). kept.asset) asset_of (λ kept. refl) (λ why. refl) did.result c.answer_of.result c.stored-reply.result.1 c.answer_of.ensures c.stored-reply.ensures.answer) free c.len.ensures
     did.new.disk did.new.table did.new.own core.holds.items c.cause_of-cause.result c.note.ensures c.cause_of-cause.ensures (ap (λ (e : Entry). e ∷ []) entry_is)
-    (worked_by on ask (config_of core.config) (parts_of old) (parts_of left) did.result (λ told some may. at.crash told some may.0 may.1) at.durable at.stays (λ told some may. at.rest told some may.0) at.table at.keeps at.clean_files at.clean_moments at.clean_rows at.clean_own (λ broke. inl (at.shown broke)) at.unshown at.lasting at.disk_cause at.keeper_cause))
+    (worked_by on ask (config_of core.config) (parts_of old) (parts_of left) did.result (λ told some may. at.crash told some may.0 may.1) (λ told some may. at.halfway told some may.0 may.1) at.durable at.stays (λ told some may. at.rest told some may.0) at.table at.keeps at.clean_files at.clean_moments at.clean_rows at.clean_own (λ broke. inl (at.shown broke)) at.unshown at.lasting at.disk_cause at.keeper_cause))
 
 pub returns-in-Some-clause-why : goal.returns-in-Some-clause-why
 returns-in-Some-clause-why g c =

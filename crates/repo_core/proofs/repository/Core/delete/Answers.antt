@@ -41,7 +41,7 @@ returns-clause-called g c = rw (← c.self.view_is) (
     let free : BarredBy old None = subst (λ (k : CoreView g.row.D.Denot g.row.T.Denot). BarredBy k None) (sym c.self.view_is) c.in_default.ensures in
     called_done on ask old c.note.new.self c.answer_of-said.result c.deletion-2.result (λ done. done) did.result c.len.result (answers did.result c.answer_of-said.result c.answer_of-said.ensures) free c.len.ensures
     did.new.disk did.new.table did.new.own core.holds.items c.cause_of-cause.result c.note.ensures c.cause_of-cause.ensures (ap (λ (e : Entry). e ∷ []) c.deletion-2.ensures)
-    (worked_by on ask (config_of core.config) (parts_of old) (parts_of left) did.result (λ told some _. at.crash told some) at.durable at.stays (λ told some _. at.rest told some) at.table (at.keeps c.args.moment refl) at.clean_files at.clean_moments at.clean_rows at.clean_own (λ broke. inl (at.shown broke)) at.unshown at.lasting at.disk_cause at.keeper_cause)
+    (worked_by on ask (config_of core.config) (parts_of old) (parts_of left) did.result (λ told some _. at.crash told some) (λ told some _. at.halfway told some) at.durable at.stays (λ told some _. at.rest told some) at.table (at.keeps c.args.moment refl) at.clean_files at.clean_moments at.clean_rows at.clean_own (λ broke. inl (at.shown broke)) at.unshown at.lasting at.disk_cause at.keeper_cause)
     (λ told some _ s a.
     let next = next_done (config_of core.config) (length core.journal.entries) c.args.caller s (call.Delete c.args.key c.args.moment.now) (λ _. reply.Gone) (StandFor on (config_of core.config) (parts_of left)) did.result
     c.answer_of-said.result c.cause_of-cause.result c.len.result c.answer_of-said.ensures c.cause_of-cause.ensures c.len.ensures refl a.sound (λ t stands. stands.sound) (at.ends told some s a) in
@@ -64,7 +64,7 @@ returns-clause-survives g c = rw (← c.self.view_is) (
     let free : BarredBy old None = subst (λ (k : CoreView g.row.D.Denot g.row.T.Denot). BarredBy k None) (sym c.self.view_is) c.in_default.ensures in
     survives_done on ask old c.note.new.self c.answer_of-said.result c.deletion-2.result (λ done. done) did.result c.len.result (answers did.result c.answer_of-said.result c.answer_of-said.ensures) free c.len.ensures
     did.new.disk did.new.table did.new.own core.holds.items c.cause_of-cause.result c.note.ensures c.cause_of-cause.ensures (ap (λ (e : Entry). e ∷ []) c.deletion-2.ensures)
-    (worked_by on ask (config_of core.config) (parts_of old) (parts_of left) did.result (λ told some _. at.crash told some) at.durable at.stays (λ told some _. at.rest told some) at.table (at.keeps c.args.moment refl) at.clean_files at.clean_moments at.clean_rows at.clean_own (λ broke. inl (at.shown broke)) at.unshown at.lasting at.disk_cause at.keeper_cause))
+    (worked_by on ask (config_of core.config) (parts_of old) (parts_of left) did.result (λ told some _. at.crash told some) (λ told some _. at.halfway told some) at.durable at.stays (λ told some _. at.rest told some) at.table (at.keeps c.args.moment refl) at.clean_files at.clean_moments at.clean_rows at.clean_own (λ broke. inl (at.shown broke)) at.unshown at.lasting at.disk_cause at.keeper_cause))
 
 pub returns-in-Some-clause-why : goal.returns-in-Some-clause-why
 returns-in-Some-clause-why g c =

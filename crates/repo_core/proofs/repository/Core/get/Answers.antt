@@ -26,6 +26,7 @@ use Rattle.repo_core.proofs.Barrings.{barred_alone}
 use Rattle.repo_core.proofs.CallsMade.{left_by, called_done, survives_done}
 use Rattle.repo_core.proofs.WorkAnswers.{answers_as}
 use Rattle.repo_core.proofs.Works.{worked_quietly}
+use Rattle.repo_core.proofs.Givings.{same_contents}
 use Rattle.repo_core.proofs.Finishings.{next_done}
 use Rattle.repo_core.proofs.Tellings.{reply_same, given_holds, damage_from}
 use Rattle.repo_core.proofs.Whys.{barred_why, said_why}
@@ -65,7 +66,9 @@ returns-clause-called g c = rw (← c.self.view_is) (
     called_done on ask old c.note.new.self c.tell-reply.result.answer c.look_entry-2.result got_given did.result c.len-number.result
     (answers_as got_given got_of (λ given. refl) (λ why. refl) did.result c.answer_of.result c.tell-reply.result.answer c.answer_of.ensures c.tell-reply.ensures.answer) free c.len-number.ensures
     did.new.disk did.new.table core.own c.tell-reply.new.holds.items c.cause_of-cause.result c.note.ensures c.cause_of-cause.ensures (ap (λ (e : Entry). e ∷ []) entry_is)
-    (worked_quietly on ask (config_of core.config) (parts_of old) (parts_of left) did.result (λ s image has. inl has) (record { files = λ told n out. ap (λ (t : Tree). t n) (at.tree told); moments = at.any_moment; shown = at.shown }) at.table (λ _. refl) at.clean_rows (λ _. refl) at.changed at.unchanged at.lasting at.disk_cause at.keeper_cause)
+    (worked_quietly on ask (config_of core.config) (parts_of old) (parts_of left) did.result (λ s image has. inl has)
+    (λ told some _ s a broke. record { files = inl (same_contents (config_of core.config) (g.D.Disk.tree core.disk) s a.files (g.D.Disk.tree did.new.disk) (λ n out. ap (λ (t : Tree). t n) (at.tree told))); rows_are = at.halfway told some core.own s a broke })
+    (record { files = λ told n out. ap (λ (t : Tree). t n) (at.tree told); moments = at.any_moment; shown = at.shown }) at.table (λ _. refl) at.clean_rows (λ _. refl) at.changed at.unchanged at.lasting at.disk_cause at.keeper_cause)
     (λ told some _ s a.
     let next = next_done (config_of core.config) (length core.journal.entries) c.args.caller s asked says (StandFor on (config_of core.config) (parts_of left)) did.result
     c.answer_of.result c.cause_of-cause.result c.len-number.result c.answer_of.ensures c.cause_of-cause.ensures c.len-number.ensures refl a.sound (λ t stands. stands.sound) (at.ends told some core.own s a) in
@@ -99,7 +102,9 @@ returns-clause-survives g c = rw (← c.self.view_is) (
     survives_done on ask old c.note.new.self c.tell-reply.result.answer c.look_entry-2.result got_given did.result c.len-number.result
     (answers_as got_given got_of (λ given. refl) (λ why. refl) did.result c.answer_of.result c.tell-reply.result.answer c.answer_of.ensures c.tell-reply.ensures.answer) free c.len-number.ensures
     did.new.disk did.new.table core.own c.tell-reply.new.holds.items c.cause_of-cause.result c.note.ensures c.cause_of-cause.ensures (ap (λ (e : Entry). e ∷ []) entry_is)
-    (worked_quietly on ask (config_of core.config) (parts_of old) (parts_of left) did.result (λ s image has. inl has) (record { files = λ told n out. ap (λ (t : Tree). t n) (at.tree told); moments = at.any_moment; shown = at.shown }) at.table (λ _. refl) at.clean_rows (λ _. refl) at.changed at.unchanged at.lasting at.disk_cause at.keeper_cause))
+    (worked_quietly on ask (config_of core.config) (parts_of old) (parts_of left) did.result (λ s image has. inl has)
+    (λ told some _ s a broke. record { files = inl (same_contents (config_of core.config) (g.D.Disk.tree core.disk) s a.files (g.D.Disk.tree did.new.disk) (λ n out. ap (λ (t : Tree). t n) (at.tree told))); rows_are = at.halfway told some core.own s a broke })
+    (record { files = λ told n out. ap (λ (t : Tree). t n) (at.tree told); moments = at.any_moment; shown = at.shown }) at.table (λ _. refl) at.clean_rows (λ _. refl) at.changed at.unchanged at.lasting at.disk_cause at.keeper_cause))
 
 pub returns-clause-content : goal.returns-clause-content
 returns-clause-content g c = rw (← c.self.view_is) (λ told some s tracks.
