@@ -14,7 +14,7 @@ use Rattle.http_front.specs.Turns.{Setting, Turn, FollowsAt, Makes, AreTurns, co
 -- an entry that follows at a store follows
 follows : (config : Config) (number : ℕ) (s : State) (store : List ℕ) (e : Entry) (t : State) → FollowsAt config number s store e t → Follows config number s e t
 follows config number s store e t (inl x) = inl (store, x)
-follows config number s store e t (inr x) = inr x
+follows config number s store e t (inr fails) = inr (inl fails)
 
 -- two histories, one behind the other
 pub joined : (config : Config) (n : ℕ) (s : State) (es fs : List Entry) (mid new : State)

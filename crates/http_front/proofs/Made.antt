@@ -32,10 +32,7 @@ failed fault.Memory h = cc
 pub done_is : (config : Config) (n : ℕ) (s : State) (store : List ℕ) (e : Entry) (new : State) → FollowsAt config n s store e new → IsTrue (is_sound e.reply)
     → done_by config s store e.call ≡ record { reply = e.reply; new = new }
 done_is config n s store e new (inl x) h = ap (λ (o : Option Outcome). unwrap_or o (record { reply = reply.Refused refusal.NoMemory; new = s })) x
-done_is config n s store e new (inr (inl fails)) h = absurd (failed fails.what (subst (λ (r : Reply). IsTrue (is_sound r)) fails.says h))
-done_is config n s store e new (inr (inr damaged)) h =
-    let bad : false ≡ true = subst (λ (r : Reply). IsTrue (is_sound r)) damaged.says h in
-    cc
+done_is config n s store e new (inr fails) h = absurd (failed fails.what (subst (λ (r : Reply). IsTrue (is_sound r)) fails.says h))
 
 -- behind two entries there is no call
 pub none_behind : (d : List ℕ → List ℕ) (m : Moment) (q : Item) (stop : Option Stop) (done : List Entry) → 2 ≤ length done → next_call d m q stop done ≡ None

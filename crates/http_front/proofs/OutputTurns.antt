@@ -35,7 +35,7 @@ sound config s store c e = whole s.broken e where
 answered : (caller : ℕ) (config : Config) (n : ℕ) (s : State) (store : List ℕ) (c : Call) (o : Option Outcome) → outcome config s store c ≡ o
     → FollowsAt config n s store (entry_of caller c (unwrap_or o (record { reply = reply.Refused refusal.NoMemory; new = s }))) (unwrap_or o (record { reply = reply.Refused refusal.NoMemory; new = s })).new
 answered caller config n s store c (Some o) e = inl e
-answered caller config n s store c None e = inr (inl (record { what = fault.Memory; says = refl; sound = sound config s store c e; leaves = inl refl }))
+answered caller config n s store c None e = inr (record { what = fault.Memory; says = refl; sound = sound config s store c e; leaves = inl refl })
 
 -- the entry of a call
 abbrev entry : Setting → List Entry → State → Call → Entry

@@ -5,7 +5,7 @@ use Rattle.repo_model.specs.declared.entry.Entry.{Entry}
 use Rattle.repo_model.specs.Config.{Config}
 use Rattle.repo_model.specs.State.{State}
 use Rattle.repo_model.specs.Step.{outcome}
-use Rattle.repo_model.specs.History.{Fails, IsDamaged}
+use Rattle.repo_model.specs.History.{Fails}
 use Rattle.http_heads.specs.Head.{is_put}
 use Rattle.http_requests.specs.Requests.{Item, refused, whole, stopped, cut}
 use Rattle.http_front.specs.declared.stop.Stop.{Stop}
@@ -31,11 +31,12 @@ pub record Turn : Type 0 where
   pub stop : Option Stop
   pub entries : List Entry
 
--- the entry with that number comes next: by the step, of an upload into that store; or a device, the memory or a content failed
+-- The entry with that number comes next: by the step, of an upload into that store; or a device or the memory failed. No content is told
+-- to be damaged: those that the state's rows name are there.
 abbrev pub FollowsAt : Config → ℕ → State → List ℕ → Entry → State → Type 0
 FollowsAt config number state store entry new =
     (outcome config state store entry.call ≡ Some (record { reply = entry.reply; new = new }))
-    ⊎ (Fails number state entry.call entry.reply new ⊎ IsDamaged state entry.call entry.reply new)
+    ⊎ Fails number state entry.call entry.reply new
 
 -- behind the entries `done` of a request, the entry with that number is that of its next call, and leads from the state to the new one
 pub record IsNextEntry (setting : Setting) (moment : Moment) (request : Item) (stop : Option Stop) (done : List Entry) (number : ℕ) (state : State) (entry : Entry) (new : State) : Type 0 where

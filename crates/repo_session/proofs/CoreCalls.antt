@@ -1,5 +1,5 @@
 -- What the calls of a core are to a session: what the core says of each call, with the contents beside.
-use Rattle.std.proofs.Common.{◌≡◌, ◌≢◌, inl, inr, false, ℕ, List, [], ◌∷◌, length, IsSome, IfOk, IfErr, Some, None, Result, Ok, Err, refl, sym, ◌∙◌, ap, subst, append-nil}
+use Rattle.std.proofs.Common.{◌≡◌, ◌≢◌, inl, inr, false, ℕ, List, [], ◌∷◌, length, IsSome, IfOk, IfErr, Option, Some, None, Result, Ok, Err, refl, sym, ◌∙◌, ap, subst, append-nil}
 use Rattle.std.proofs.lemmas.Bool.{cases_lt}
 use Rattle.nx_base.specs.declared.asset.Asset.{Asset}
 use Rattle.nx_base.specs.declared.moment.Moment.{Moment}
@@ -16,6 +16,9 @@ use Rattle.repo_model.specs.declared.reply.Reply.{Reply}
 use Rattle.repo_model.specs.declared.reply.Reply.TheVariants as reply
 use Rattle.repo_model.specs.State.{State}
 use Rattle.repo_model.specs.Plain.{config_of}
+use Rattle.http_front.specs.Sound.{IsUndamaged}
+use Rattle.http_front.proofs.OneOutcome.{TellsNoDamage}
+use Rattle.repo_model.specs.History.{content_key}
 use Rattle.http_front.specs.Contents.{Contents, with_content}
 use Rattle.http_front.specs.TurnLaws.{ends_upload}
 use Rattle.http_front.specs.Turns.{FollowsAt}
@@ -49,6 +52,12 @@ caused : {A : Type 0} (Is : Fault → Type 0) (why : Refusal) (Cause : Type 0) (
     → ((value : A) → says value ≢ reply.Refused why) → IfErr result (λ e. RefusedBy Is e → Cause) → reply_of says result ≡ reply.Refused why → Cause
 caused Is why Cause says (Ok value) by never failed is = absurd (never value is)
 caused Is why Cause says (Err other) by never failed is = failed (subst (λ (r : Refusal). RefusedBy Is r) (sym (refusal_is other why is)) by)
+
+-- an answer of a core that tells of no damage is such a reply
+pub undamaged : {A : Type 0} (says : A → Reply) (result : Result A Refusal) → ((value : A) → IsUndamaged (says value))
+    → ((size : ℕ) (found : Option ℕ) → result ≢ Err (refusal.Damaged size found)) → IsUndamaged (reply_of says result)
+undamaged says (Ok value) never whole = never value
+undamaged says (Err why) never whole = λ size found is. whole size found (ap (λ (r : Refusal). Err r) (refusal_is why (refusal.Damaged size found) is))
 
 -- an answer that stores nothing
 pub stores_nothing : {A : Type 0} (says : A → Reply) (result : Result A Refusal) → ((value : A) (made : Asset) → says value ≢ reply.Stored made)
@@ -118,16 +127,16 @@ module _ {D T A : Type 0} (on : Devices D T) (old new : CoreView D T) (c : Call)
       (moved.next, (moved.next, moved.leads.0, refl), moved.tracks)
 
   -- A call that ends no upload and stores nothing.
-  pub asked_plain : IsAsked c → ends_upload c ≡ false → ((value : A) → IsNoRefusal (says value)) → ((value : A) (made : Asset) → says value ≢ reply.Stored made)
+  pub asked_plain : IsAsked c → ends_upload c ≡ false → (on.told → IsSome (on.table new.table) → (s : State) → Tracks on.tree on.table old s → TellsNoDamage c (reply_of says result)) → ((value : A) → IsNoRefusal (says value)) → ((value : A) (made : Asset) → says value ≢ reply.Stored made)
       → core.Called on (asks 0 c says touches alters keeps) old new result → Survives on (asks 0 c says touches alters keeps) old new result
       → Called on old new c [] (reply_of says result) (λ contents. contents)
-  asked_plain asked ends refuses stores done survives =
+  asked_plain asked ends whole_of refuses stores done survives =
       called_by on (asks 0 c says touches alters keeps) old new result done c [] says (λ contents. contents) refuses (λ entries one. one)
       (λ told full s contents stands.
       let same : new ≡ old = whole on (asks 0 c says touches alters keeps) old new result done full ∙ ap (λ (d : D). record old { disk = d }) (done.full full).0.given_up in
       subst (λ (k : CoreView D T). Stands on k s contents) (sym same) stands)
       (λ told some room s contents stands.
-      leads_plain on old new s contents c (reply_of says result) asked ends (stores_nothing says result stores) (moves_of done told some room s stands.tracks) stands
+      leads_plain on old new s contents c (reply_of says result) asked ends (whole_of told some s stands.tracks) (stores_nothing says result stores) (moves_of done told some room s stands.tracks) stands
       (was_sound on old new (λ cause is. (done.broken cause room is).rest))
       (survives.stays told))
 
@@ -136,11 +145,11 @@ module _ {D T : Type 0} (on : Devices D T) (old new : CoreView D T) (c : Call) (
   stored asset = reply.Stored asset
 
   -- A call that stores an upload.
-  pub asked_to_store : IsAsked c → (store content : List ℕ) (premise : Type 0) → (on.told → premise)
+  pub asked_to_store : IsAsked c → content_key c ≡ None → (store content : List ℕ) (premise : Type 0) → (on.told → premise)
       → (on.told → IfOk result (λ (asset : Asset). on.tree new.disk (bytes_name asset.blob) ≡ Some content))
       → core.Called on (asks_to_store on 0 c stored touches alters keeps store premise) old new result → Survives on (asks_to_store on 0 c stored touches alters keeps store premise) old new result
       → Called on old new c store (reply_of stored result) (λ contents. with_content (reply_of stored result) content contents)
-  asked_to_store asked store content premise holds made done survives =
+  asked_to_store asked none store content premise holds made done survives =
       let ask = asks_to_store on 0 c stored touches alters keeps store premise in
       called_by on ask old new result done c store stored (λ contents. with_content (reply_of stored result) content contents) (λ v. (λ e. cc, λ e. cc)) (λ entries one. one)
       (λ told full s contents stands.
@@ -150,7 +159,7 @@ module _ {D T : Type 0} (on : Devices D T) (old new : CoreView D T) (c : Call) (
       (λ told some room s contents stands.
       let moved : core.Moved on (Some store) old new (entry_of 0 c stored result ∷ []) s =
       subst (λ (l : List Entry). core.Moved on (Some store) old new l s) (done.enters room) (done.moves told some room (holds told) s stands.tracks) in
-      leads_put on old new s contents c store content result asked
+      leads_put on old new s contents c store content result asked none
       (moved.next, (moved.next, moved.leads.0, refl), moved.tracks, moved.leads.2) stands
       (was_sound on old new (λ cause is. (done.broken cause room is).rest))
       (survives.stays told) (made told))
@@ -170,7 +179,7 @@ pub asked_put : {D T S : Type 0} (on : Devices D T) (content_of : S → List ℕ
     → MayGo (config_of old.config) ready.begin.key ready.store → (content : List ℕ) → (on.told → AreBytes (upload_of ready) content × (content_of ready.file ≡ content))
     → Called on old new (put_call (upload_of ready) moment) ready.store (reply_of (λ (asset : Asset). reply.Stored asset) result) (λ contents. with_content (reply_of (λ (asset : Asset). reply.Stored asset) result) content contents)
 asked_put on content_of old new ready moment result done survives made may content are =
-    asked_to_store on old new (put_call (upload_of ready) moment) (TouchesNew ready.store ready.begin.key moment) (SetsRow ready.begin.key) (Timestamps ready.begin.key moment) result tt ready.store content
+    asked_to_store on old new (put_call (upload_of ready) moment) (TouchesNew ready.store ready.begin.key moment) (SetsRow ready.begin.key) (Timestamps ready.begin.key moment) result tt refl ready.store content
     (MayGo (config_of old.config) ready.begin.key ready.store × AreBytes (upload_of ready) (content_of ready.file))
     (λ told. (may, subst (λ (l : List ℕ). AreBytes (upload_of ready) l) (sym (are told).1) (are told).0))
     (λ told. subst (λ (l : List ℕ). IfOk result (λ (asset : Asset). on.tree new.disk (bytes_name asset.blob) ≡ Some l)) (are told).1 (made told))

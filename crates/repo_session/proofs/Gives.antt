@@ -19,6 +19,7 @@ use Rattle.repo_model.specs.declared.transfer.GotOf.TheVariants as got
 use Rattle.repo_model.specs.State.{State}
 use Rattle.repo_model.specs.History.{Follows}
 use Rattle.repo_model.specs.Plain.{config_of}
+use Rattle.http_front.specs.Sound.{IsUndamaged}
 use Rattle.http_front.specs.Contents.{Contents}
 use Rattle.repo_core.specs.View.{CoreView}
 use Rattle.repo_core.specs.Asks.{looks_at, KeepsAll, SetsRow, TouchesNone}
@@ -43,6 +44,11 @@ pub found_stores : {L : Type 0} (got : GotOf L) (made : Asset) → found_in got 
 found_stores (got.Hit asset download) made e = cc
 found_stores (got.Seen asset) made e = cc
 found_stores (got.NeedFetch key) made e = cc
+
+pub found_whole : {L : Type 0} (got : GotOf L) → IsUndamaged (found_in got)
+found_whole (got.Hit asset download) size found e = cc
+found_whole (got.Seen asset) size found e = cc
+found_whole (got.NeedFetch key) size found e = cc
 
 -- no answer is a refusal too
 ok_or_err : {A B : Type 0} (r : Result A B) (a : A) (b : B) → r ≡ Ok a → r ≡ Err b → ⊥

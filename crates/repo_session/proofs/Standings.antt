@@ -12,13 +12,13 @@ use Rattle.repo_model.specs.declared.reply.Reply.{Reply}
 use Rattle.repo_model.specs.declared.reply.Reply.TheVariants as reply
 use Rattle.repo_model.specs.Config.{Config}
 use Rattle.repo_model.specs.State.{State}
-use Rattle.repo_model.specs.History.{Follows}
+use Rattle.repo_model.specs.History.{Follows, content_key}
 use Rattle.repo_model.specs.Plain.{config_of}
 use Rattle.http_front.specs.Contents.{Contents, with_content}
 use Rattle.http_front.specs.Served.{Has}
 use Rattle.http_front.specs.TurnLaws.{ends_upload}
 use Rattle.http_front.specs.Turns.{FollowsAt}
-use Rattle.http_front.proofs.OneOutcome.{follows_at}
+use Rattle.http_front.proofs.OneOutcome.{TellsNoDamage, follows_at}
 use Rattle.repo_core.specs.View.{CoreView}
 use Rattle.repo_core.specs.Agree.{FilesAgree}
 use Rattle.repo_core.specs.Answers.{entry_of, reply_of}
@@ -124,42 +124,42 @@ module _ {D T : Type 0} (devices : Devices D T) where
       same_blob a b e = let is : a ≡ b = cc in ap (λ (x : Asset). x.blob) is
 
   -- A call that ends no upload and stores nothing leads on by its entry.
-  pub leads_plain : (old new : CoreView D T) (s : State) (contents : Contents) (c : Call) (said : Reply) → IsAsked c → ends_upload c ≡ false → ((made : Asset) → said ≢ reply.Stored made)
+  pub leads_plain : (old new : CoreView D T) (s : State) (contents : Contents) (c : Call) (said : Reply) → IsAsked c → ends_upload c ≡ false → TellsNoDamage c said → ((made : Asset) → said ≢ reply.Stored made)
       → Moves devices.tree devices.table old new (record { caller = 0; call = c; reply = said } ∷ []) s → Stands devices old s contents
       → (new.broken ≡ None → old.broken ≡ None) → (new.broken ≡ None → BytesStay (devices.tree old.disk) (devices.tree new.disk))
       → (next : State) × FollowsAt (config_of old.config) (length old.journal.entries) s [] (record { caller = 0; call = c; reply = said }) next × Stands devices new next contents
-  leads_plain old new s contents c said asked one never (t, (mid, follows, is), tracks) stands back stays =
+  leads_plain old new s contents c said asked one whole never (t, (mid, follows, is), tracks) stands back stays =
       let entry : Entry = record { caller = 0; call = c; reply = said } in
       let config = config_of old.config in
       let number = length old.journal.entries in
       let here : Follows config number s entry t = subst (λ (x : State). Follows config number s entry x) (sym is) follows in (
         t,
-        follows_at config number s entry t here one [],
+        follows_at config number s entry t here one whole [],
         stands_plain old new s t contents said stands tracks (leads_of config number s entry t asked here) back stays never,
       )
 
   -- A put leads on by its entry, at the store of its upload.
-  pub leads_put : (old new : CoreView D T) (s : State) (contents : Contents) (c : Call) (store : List ℕ) (content : List ℕ) (result : Result Asset Refusal) → IsAsked c
+  pub leads_put : (old new : CoreView D T) (s : State) (contents : Contents) (c : Call) (store : List ℕ) (content : List ℕ) (result : Result Asset Refusal) → IsAsked c → content_key c ≡ None
       → MovesAt devices.tree devices.table old new store (entry_of 0 c (λ asset. reply.Stored asset) result) s → Stands devices old s contents
       → (new.broken ≡ None → old.broken ≡ None) → (new.broken ≡ None → BytesStay (devices.tree old.disk) (devices.tree new.disk))
       → IfOk result (λ asset. devices.tree new.disk (bytes_name asset.blob) ≡ Some content)
       → (next : State) × FollowsAt (config_of old.config) (length old.journal.entries) s store (entry_of 0 c (λ asset. reply.Stored asset) result) next
       × Stands devices new next (with_content (reply_of (λ asset. reply.Stored asset) result) content contents)
-  leads_put old new s contents c store content (Ok asset) asked (t, (mid, follows, is), tracks, at) stands back stays made =
+  leads_put old new s contents c store content (Ok asset) asked none (t, (mid, follows, is), tracks, at) stands back stays made =
       let entry : Entry = record { caller = 0; call = c; reply = reply.Stored asset } in
       let config = config_of old.config in
       let number = length old.journal.entries in
       let here : Follows config number s entry t = subst (λ (x : State). Follows config number s entry x) (sym is) follows in (
         t,
-        follows_store config number s entry t store asked here at,
+        follows_store config number s entry t store asked (inl none) here at,
         stands_stored old new s t contents asset content stands tracks (leads_of config number s entry t asked here) back stays made,
       )
-  leads_put old new s contents c store content (Err why) asked (t, (mid, follows, is), tracks, at) stands back stays made =
+  leads_put old new s contents c store content (Err why) asked none (t, (mid, follows, is), tracks, at) stands back stays made =
       let entry : Entry = record { caller = 0; call = c; reply = reply.Refused why } in
       let config = config_of old.config in
       let number = length old.journal.entries in
       let here : Follows config number s entry t = subst (λ (x : State). Follows config number s entry x) (sym is) follows in (
         t,
-        follows_store config number s entry t store asked here at,
+        follows_store config number s entry t store asked (inl none) here at,
         stands_plain old new s t contents (reply.Refused why) stands tracks (leads_of config number s entry t asked here) back stays (λ made is. cc),
       )
