@@ -15,14 +15,11 @@ use Rattle.repo_model.specs.Plain.{config_of}
 use Rattle.repo_model.specs.State.{State, empty_state}
 use Rattle.repo_config.specs.Model.{model_of}
 use Rattle.repo_config.specs.Settings.{Settings}
-use Rattle.tree_content.specs.Contents.{HasContents}
-use Rattle.tree_content.proofs.Naming.{named_contents}
 use Rattle.http_requests.specs.Requests.{Item}
 use Rattle.http_front.specs.Turns.{Setting, Turn, AreTurns, entries_of}
 use Rattle.http_front.proofs.SoundTurns.{sound_output}
 use Rattle.http_front.proofs.Histories.{turns_legal}
-use Rattle.repo_core.specs.Rows.{contents_in}
-use Rattle.repo_core.specs.Stores.{homes_of}
+use Rattle.repo_core.specs.Agree.{FilesAgree}
 use Rattle.repo_core.specs.Standing.{Tracks}
 use Rattle.repo_core.specs.View.{CoreView}
 use Rattle.repo_core.specs.Devices.{Devices}
@@ -68,7 +65,7 @@ module _ {D T : Type 0} (devices : Devices D T) (moments : List Moment) (disk : 
         let agrees = tracks.agrees sound in
         let same : config_of new.config ≡ model_of opened.settings = ap config_of config ∙ opened.config in
         record {
-          files = subst (λ (c : Config). HasContents (homes_of c) (contents_in state.rows) (devices.tree new.disk)) same (named_contents _ _ _ agrees.files.names);
+          agree = subst (λ (c : Config). FilesAgree c (devices.tree new.disk) state) same agrees.files;
           rows = agrees.rows_are;
         }
 

@@ -6,11 +6,9 @@ use Rattle.repo_model.specs.State.{empty_state}
 use Rattle.repo_config.specs.Model.{model_of}
 use Rattle.repo_config.specs.Settings.{Settings}
 use Rattle.disk_model.specs.Disk.{Tree}
-use Rattle.tree_content.specs.Contents.{HasContents}
-use Rattle.tree_content.proofs.Naming.{named_contents}
 use Rattle.http_front.proofs.EndsMap.{ends_map}
-use Rattle.repo_core.specs.Rows.{contents_in, rows_in}
-use Rattle.repo_core.specs.Stores.{homes_of}
+use Rattle.repo_core.specs.Agree.{FilesAgree}
+use Rattle.repo_core.specs.Rows.{rows_in}
 use Rattle.repo_core.specs.View.{CoreView}
 use Rattle.repo_core.proofs.Beginnings.{empty_files}
 use Rattle.repo_core.specs.Devices.{Devices}
@@ -67,12 +65,12 @@ module _ {D T : Type 0} (devices : Devices D T) (moments : List Moment) (disk : 
 pub nothing_stands : {D T : Type 0} (devices : Devices D T) (disk left : D) (table rows : T) → (devices.told → devices.tree left ≡ devices.tree disk) → rows ≡ table
     → (settings : Settings) → IsFresh devices disk table rows → StandsBehind devices (model_of settings) [] left rows
 nothing_stands {D} {T} devices disk left table rows files same settings fresh =
-    let empty : HasContents (homes_of (model_of settings)) (contents_in empty_state.rows) (devices.tree disk) = named_contents _ _ _ (empty_files (model_of settings) (devices.tree disk) fresh.empty).names in
+    let empty : FilesAgree (model_of settings) (devices.tree disk) empty_state = empty_files (model_of settings) (devices.tree disk) fresh.empty in
     record {
       state = empty_state;
       legal = refl;
       stand = λ sound. record {
-        files = subst (λ (t : Tree). HasContents (homes_of (model_of settings)) (contents_in empty_state.rows) t) (sym (files fresh.told)) empty;
+        agree = subst (λ (t : Tree). FilesAgree (model_of settings) t empty_state) (sym (files fresh.told)) empty;
         rows = ap (λ (t : T). rows_in (devices.table t)) same ∙ fresh.rowless;
       };
     }

@@ -4,4 +4,6 @@ mod SomeMade
 mod Answered
 mod Causes
 mod Held
+mod Unfailed
+mod Exactly
 pub mod OneFile

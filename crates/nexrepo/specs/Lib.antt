@@ -6,3 +6,4 @@ pub mod Ends
 pub mod Opening
 pub mod Running
 pub mod Sessions
+pub mod Exact

@@ -11,7 +11,6 @@ use Rattle.repo_model.specs.History.{Legal}
 use Rattle.repo_model.specs.State.{State, empty_state}
 use Rattle.repo_config.specs.Model.{model_of}
 use Rattle.repo_config.specs.Settings.{Settings}
-use Rattle.tree_content.specs.Contents.{HasContents}
 use Rattle.http_requests.specs.Requests.{Item}
 use Rattle.http_front.specs.declared.end.End.{End}
 use Rattle.http_front.specs.Contents.{Contents}
@@ -21,8 +20,8 @@ use Rattle.http_front.specs.Sound.{AreSound}
 use Rattle.http_front.specs.TurnLaws.{IsOutput}
 use Rattle.http_front.specs.Turns.{Setting, Turn, AreTurns, entries_of, requests_of, turns_said}
 use Rattle.repo_core.specs.Fresh.{HasNoBlob}
-use Rattle.repo_core.specs.Rows.{contents_in, rows_in}
-use Rattle.repo_core.specs.Stores.{homes_of}
+use Rattle.repo_core.specs.Agree.{FilesAgree}
+use Rattle.repo_core.specs.Rows.{rows_in}
 use Rattle.repo_core.specs.Devices.{Devices}
 use Rattle.repo_session.specs.Drawing.{draw_of}
 use Rattle.repo_session.specs.Turned.{disk_faults_in, keeper_faults_in}
@@ -50,9 +49,9 @@ pub record IsFresh {D T : Type 0} (devices : Devices D T) (disk : D) (table tabl
   pub empty : HasNoBlob (devices.tree disk)
   pub rowless : rows_in (devices.table table) ≡ map.empty
 
--- The files have the contents of the state's rows, and the table has these rows.
+-- The files are what the state says: its rows and the live blobs name each other, its trash has just the marked blobs. The table has these rows.
 pub record StandFor {D T : Type 0} (devices : Devices D T) (config : Config) (disk : D) (table : T) (state : State) : Type 0 where
-  pub files : HasContents (homes_of config) (contents_in state.rows) (devices.tree disk)
+  pub agree : FilesAgree config (devices.tree disk) state
   pub rows : rows_in (devices.table table) ≡ state.rows
 
 -- From the repository in which nothing was stored the turns lead on, and what is said in them is what was written. The session ends behind

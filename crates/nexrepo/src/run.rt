@@ -8,6 +8,7 @@ ghost use Rattle.nexrepo.specs.declared.status.Status.TheVariants as status;
 ghost use Rattle.nexrepo.specs.Commands.{texts_of};
 ghost use Rattle.nexrepo.specs.Configs.{FileGives, IsBadFile};
 ghost use Rattle.nexrepo.specs.Ends.{HasStatusCause, fault_status, status_of};
+ghost use Rattle.nexrepo.specs.Exact.{NoneRose, IsHeldStatus, HeldExactly};
 ghost use Rattle.nexrepo.specs.Running.{AreNone, IsFresh, EndsEarly, HoldsSession, StandsBehind};
 ghost use Rattle.nexrepo.specs.Sessions.{HasServed};
 ghost use Rattle.nexrepo.specs.Statuses.{config_file};
@@ -54,6 +55,12 @@ pub fn run<S: Source, K: Sink, D: Disk, T: Keeper>(
     // Either nothing was read or written, or a session was held with the settings that the file gives.
     ensures session { EndsEarly (devices D.Disk T.Keeper) disk table input.old input.new output.old output.new result
         ⊎ HoldsSession (devices D.Disk T.Keeper) moments.now disk table (S.left input.old) (S.left input.new) (S.ended input.new) (K.taken output.old) (K.taken output.new) result }
+    // Over fresh devices, where none failed and the status isn't 2, 3, 6 or 15, bytes and entries are exactly what the one-thread repository
+    // makes of the requests that were read, unless an answer was a want of memory.
+    ensures exact { NoneRose (record { reads = S.faults input.old; writes = K.faults output.old; disk = D.faults disk; keeper = T.faults table })
+        (record { reads = S.faults input.new; writes = K.faults output.new; disk = D.faults result.disk; keeper = T.faults result.table })
+        → IsHeldStatus result.status → IsFresh (devices D.Disk T.Keeper) disk table result.table
+        → HeldExactly (devices D.Disk T.Keeper) moments.now disk (S.left input.old) (S.left input.new) (S.ended input.new) (K.taken output.old) (K.taken output.new) result }
     // Over fresh devices the journal is a history of the one-thread repository from its beginning on, and the devices stand for what it leads to.
     ensures history { (settings : Settings) → FileGives (D.tree disk config_file) settings → IsFresh (devices D.Disk T.Keeper) disk table result.table
         → StandsBehind (devices D.Disk T.Keeper) (model_of settings) result.journal.entries result.disk result.table }

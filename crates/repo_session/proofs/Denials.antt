@@ -68,6 +68,8 @@ no_call_turn devices core item moment upload = record {
     broken = λ cause is. is;
     disk_broke = λ cause was is says. absurd (some_is_none (sym is ∙ was));
     keeper_broke = λ cause was is says. absurd (some_is_none (sym is ∙ was));
+    durable = λ told sound is. is;
+    others = λ told some state tracks. (state, tracks, λ n out no. refl);
   };
   stops = (upload, refl);
   disk = omega arith;

@@ -53,6 +53,11 @@ broke_in before mid now None broken' cause later more first second stays is = ro
 broke_in before mid now (Some c) broken' cause later more first second stays is =
     rose_later before mid now (first (sym (stays c refl) ∙ is)) more
 
+-- a core that isn't broken wasn't
+unbroken : (before now : Option Cause) → ((cause : Cause) → before ≡ Some cause → now ≡ Some cause) → now ≡ None → before ≡ None
+unbroken None now stays none = refl
+unbroken (Some cause) now stays none = let both : Some cause ≡ None = sym (stays cause refl) ∙ none in cc
+
 -- One behind another.
 pub since_both : {D T : Type 0} (devices : Devices D T) (old mid new : CoreView D T) (first second : List Entry) → Since devices old mid first → Since devices mid new second → Since devices old new (first ++ second)
 since_both {D} {T} devices old mid new first second one two = record {
@@ -67,6 +72,11 @@ since_both {D} {T} devices old mid new first second one two = record {
       (λ broke. one.disk_broke cause was broke says) (λ none. two.disk_broke cause none is says) two.broken is;
   keeper_broke = λ cause was is says. broke_in _ _ _ mid.broken new.broken cause one.keeper_later two.keeper_later
       (λ broke. one.keeper_broke cause was broke says) (λ none. two.keeper_broke cause none is says) two.broken is;
+  durable = λ told sound is. two.durable told sound (one.durable told (unbroken mid.broken new.broken two.broken sound) is);
+  others = λ told some state tracks.
+      let m = one.others told (two.tells some) state tracks in
+      let k = two.others told some m.0 m.1 in
+      (k.0, k.1, λ n out no. k.2 n out no ∙ m.2 n out no);
 }
 
 -- what is stored or refused gives nothing out

@@ -48,6 +48,8 @@ head_refused devices core moment why bare = record {
       broken = λ cause is. is;
       disk_broke = λ cause was is says. absurd (some_is_none (sym is ∙ was));
       keeper_broke = λ cause was is says. absurd (some_is_none (sym is ∙ was));
+      durable = λ told sound is. is;
+      others = λ told some state tracks. (state, tracks, λ n out no. refl);
     };
     stops = tt;
     disk = omega arith;

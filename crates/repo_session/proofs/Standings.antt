@@ -39,27 +39,36 @@ held_same config tree new s contents a same held = λ key asset row.
     record { there = was.there; file = stay_same tree new same asset.blob at.0 at.1 ∙ was.file }
 
 module _ {D T : Type 0} (devices : Devices D T) where
-  -- a core with such files, that is the same else but for who holds what, stands for the same
+  -- a core with such files, that is the same else but for who holds what, tracks the same
+  moved_tracks : (old new : CoreView D T) (s : State) → (old.broken ≡ None → Same (devices.tree old.disk) (devices.tree new.disk)) → Tracks devices.tree devices.table old s
+      → Tracks devices.tree devices.table (record old { disk = new.disk; holds = new.holds }) s
+  moved_tracks old new s same tracks = record {
+    broken = tracks.broken;
+    agrees = λ none.
+        let a = tracks.agrees none in
+        record {
+          sound = a.sound;
+          files = files_same (config_of old.config) (devices.tree old.disk) (devices.tree new.disk) s (same none) a.files;
+          rows_are = a.rows_are;
+          trash_are = a.trash_are;
+          notes_are = a.notes_are;
+          last_are = a.last_are;
+          counts_are = a.counts_are;
+        };
+  }
+
+  pub tracks_same : (old new : CoreView D T) (s : State) → new ≡ record old { disk = new.disk; holds = new.holds }
+      → Same (devices.tree old.disk) (devices.tree new.disk) → Tracks devices.tree devices.table old s → Tracks devices.tree devices.table new s
+  tracks_same old new s is same tracks =
+      subst (λ (core : CoreView D T). Tracks devices.tree devices.table core s) (sym is) (moved_tracks old new s (λ none. same) tracks)
+
+  -- and stands for the same
   pub stands_same : (old new : CoreView D T) (s : State) (contents : Contents) → new ≡ record old { disk = new.disk; holds = new.holds }
       → (new.broken ≡ None → Same (devices.tree old.disk) (devices.tree new.disk)) → Stands devices old s contents → Stands devices new s contents
   stands_same old new s contents is same stands =
-      let moved : CoreView D T = record old { disk = new.disk; holds = new.holds } in
       let broken : new.broken ≡ old.broken = ap (λ (core : CoreView D T). core.broken) is in
       subst (λ (core : CoreView D T). Stands devices core s contents) (sym is) (record {
-        tracks = record {
-          broken = stands.tracks.broken;
-          agrees = λ none.
-              let a = stands.tracks.agrees none in
-              record {
-                sound = a.sound;
-                files = files_same (config_of old.config) (devices.tree old.disk) (devices.tree new.disk) s (same (broken ∙ none)) a.files;
-                rows_are = a.rows_are;
-                trash_are = a.trash_are;
-                notes_are = a.notes_are;
-                last_are = a.last_are;
-                counts_are = a.counts_are;
-              };
-        };
+        tracks = moved_tracks old new s (λ none. same (broken ∙ none)) stands.tracks;
         held = λ none.
             held_same (config_of old.config) (devices.tree old.disk) (devices.tree new.disk) s contents (stands.tracks.agrees none).files (same (broken ∙ none)) (stands.held none);
         older = stands.older;

@@ -41,6 +41,8 @@ since_none devices core = record {
   broken = λ cause is. is;
   disk_broke = λ cause was is says. absurd (some_is_none (sym is ∙ was));
   keeper_broke = λ cause was is says. absurd (some_is_none (sym is ∙ was));
+  durable = λ told sound is. is;
+  others = λ told some state tracks. (state, tracks, λ n out no. refl);
 }
   where
     some_is_none : {A : Type 0} {x : A} → Some x ≡ None → ⊥

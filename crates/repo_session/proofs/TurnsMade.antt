@@ -48,13 +48,16 @@ rose_by_both first second before mid now rose more = grind (arith, rose, more)
 -- give-backs
 
 pub rests_same : {D T : Type 0} (devices : Devices D T) (core : CoreView D T) → Rests devices core core
-rests_same devices core = record { same = refl; later = omega arith; stands = λ told state contents stands. stands }
+rests_same devices core = record { same = refl; later = omega arith; durable = λ told is. is; files = λ told n out. refl; tracks = λ told state tracks. tracks; stands = λ told state contents stands. stands }
 
 -- one behind another
 pub rests_both : {D T : Type 0} (devices : Devices D T) (old mid new : CoreView D T) → Rests devices old mid → Rests devices mid new → Rests devices old new
 rests_both {D} {T} devices old mid new first second = record {
   same = second.same ∙ ap (λ (c : CoreView D T). record c { disk = new.disk; holds = new.holds }) first.same;
   later = grind (arith, first.later, second.later);
+  durable = λ told is. second.durable told (first.durable told is);
+  files = λ told n out. second.files told n out ∙ first.files told n out;
+  tracks = λ told state tracks. second.tracks told state (first.tracks told state tracks);
   stands = λ told state contents stands. second.stands told state contents (first.stands told state contents stands);
 }
 
@@ -68,6 +71,10 @@ since_rests {D} {T} devices old mid new entries since rests = record {
   broken = λ cause is. broken ∙ since.broken cause is;
   disk_broke = λ cause was is says. rose_later _ _ _ (since.disk_broke cause was (sym broken ∙ is) says) rests.later;
   keeper_broke = λ cause was is says. subst (λ (t : T). Rose (devices.keeper_faults old.table) (devices.keeper_faults t)) (sym table) (since.keeper_broke cause was (sym broken ∙ is) says);
+  durable = λ told sound is. rests.durable told (since.durable told (sym broken ∙ sound) is);
+  others = λ told some state tracks.
+      let m = since.others told (subst (λ (t : T). IsSome (devices.table t)) table some) state tracks in
+      (m.0, rests.tracks told m.0 m.1, λ n out no. rests.files told n out ∙ m.2 n out no);
 }
   where
     table : new.table ≡ mid.table
@@ -86,6 +93,10 @@ rests_since {D} {T} devices old mid new entries rests since = record {
   broken = λ cause is. since.broken cause (broken ∙ is);
   disk_broke = λ cause was is says. rose_before _ _ _ rests.later (since.disk_broke cause (broken ∙ was) is says);
   keeper_broke = λ cause was is says. subst (λ (t : T). Rose (devices.keeper_faults t) (devices.keeper_faults new.table)) table (since.keeper_broke cause (broken ∙ was) is says);
+  durable = λ told sound is. since.durable told sound (rests.durable told is);
+  others = λ told some state tracks.
+      let m = since.others told some state (rests.tracks told state tracks) in
+      (m.0, m.1, λ n out no. m.2 n out no ∙ rests.files told n out);
 }
   where
     table : mid.table ≡ old.table

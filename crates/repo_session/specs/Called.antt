@@ -11,6 +11,8 @@ use Rattle.repo_model.specs.declared.reply.Cause.{Cause}
 use Rattle.repo_model.specs.State.{State}
 use Rattle.repo_model.specs.Plain.{config_of}
 use Rattle.http_front.specs.Contents.{Contents}
+use Rattle.repo_core.specs.Standing.{IsDurable, Tracks}
+use Rattle.repo_session.specs.Others.{OthersStay}
 use Rattle.repo_core.specs.View.{CoreView}
 use Rattle.repo_core.specs.Devices.{Devices}
 use Rattle.repo_session.specs.Standing.{Stands}
@@ -18,6 +20,7 @@ use Rattle.repo_session.specs.Leads.{IsEntryOf, LeadsBy}
 
 -- From one core to another these entries joined the journal. The configuration stays, counts of faults never fall, a table that is told
 -- was told before, a core that was broken stays so by the same cause, and one that broke did so by a device whose count rose, or for memory.
+-- A disk on which everything is settled is settled again, unless the core broke; and, told, files that are no blob's stay.
 pub record Since {D T : Type 0} (devices : Devices D T) (old new : CoreView D T) (entries : List Entry) : Type 0 where
   pub journal : new.journal ≡ record old.journal { entries = old.journal.entries ++ entries }
   pub config : new.config ≡ old.config
@@ -27,6 +30,9 @@ pub record Since {D T : Type 0} (devices : Devices D T) (old new : CoreView D T)
   pub broken : (cause : Cause) → old.broken ≡ Some cause → new.broken ≡ Some cause
   pub disk_broke : (cause : Cause) → old.broken ≡ None → new.broken ≡ Some cause → cause.fault ≡ fault.Disk → Rose (devices.disk_faults old.disk) (devices.disk_faults new.disk)
   pub keeper_broke : (cause : Cause) → old.broken ≡ None → new.broken ≡ Some cause → cause.fault ≡ fault.Keeper → Rose (devices.keeper_faults old.table) (devices.keeper_faults new.table)
+  pub durable : devices.told → new.broken ≡ None → IsDurable devices.tree devices.clock devices.lists old.disk → IsDurable devices.tree devices.clock devices.lists new.disk
+  pub others : devices.told → IsSome (devices.table new.table) → (state : State) → Tracks devices.tree devices.table old state
+      → (next : State) × Tracks devices.tree devices.table new next × OthersStay (devices.tree old.disk) (devices.tree new.disk)
 
 -- an answer that says that a device failed comes only where its count rose
 pub record HasDeviceCause {D T : Type 0} (devices : Devices D T) (old new : CoreView D T) (said : Reply) : Type 0 where

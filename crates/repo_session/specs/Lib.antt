@@ -1,5 +1,6 @@
 pub mod Standing
 pub mod Leads
+pub mod Others
 pub mod Called
 pub mod Resting
 pub mod Turned

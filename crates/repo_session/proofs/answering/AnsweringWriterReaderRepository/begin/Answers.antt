@@ -11,7 +11,7 @@ use Rattle.repo_core.specs.Puts.{MayGo}
 use Rattle.repo_core.specs.View.{CoreView}
 use Rattle.repo_session.specs.declared.open_upload.OpenUpload.{OpenUpload}
 use Rattle.repo_session.proofs.Beginnings.{called_of, upload_begun}
-use Rattle.repo_session.proofs.CoreCalls.{asked_plain}
+use Rattle.repo_session.proofs.CoreCalls.{asked_plain, none_named}
 use Rattle.repo_session.proofs.Denials.{upload_denied, upload_not_asked}
 use Rattle.repo_session.proofs.Lookings.{called_behind}
 use Rattle.repo_session.proofs.Replied.{drew, each_answered}
@@ -24,7 +24,7 @@ returns-in_default g c = λ head is put.
 pub returns-in-Ok-begin : goal.returns-in-Ok-begin
 returns-in-Ok-begin g c = λ head is put.
     let done = c.in-Ok-begin.ensures in
-    let called = asked_plain (devices g.D.Disk g.T.Keeper) _ _ (call.Begin _) begun_in TouchesNone AltersNone _ (Ok c.in-Ok-begin.upload) tt refl (λ told some s tracks. inl refl) (λ v. (λ e. cc, λ e. cc)) (λ v made e. cc) done.called done.survives in (
+    let called = asked_plain (devices g.D.Disk g.T.Keeper) _ _ (call.Begin _) begun_in TouchesNone AltersNone _ (Ok c.in-Ok-begin.upload) tt refl none_named (λ told some s tracks. inl refl) (λ v. (λ e. cc, λ e. cc)) (λ v made e. cc) done.called done.survives in (
       λ yes. record {
         draws = refl;
         upload = c.in-Ok-begin.upload;
@@ -40,7 +40,7 @@ returns-in-Err g c = λ head is put. (
   λ yes. absurd (true≢false (sym yes)),
   λ no.
       let done = c.in-Err.ensures in
-      let called = asked_plain (devices g.D.Disk g.T.Keeper) _ _ (call.Begin _) begun_in TouchesNone AltersNone _ (Err c.in-Err.refusal) tt refl (λ told some s tracks. inl refl) (λ v. (λ e. cc, λ e. cc)) (λ v made e. cc) done.called done.survives in
+      let called = asked_plain (devices g.D.Disk g.T.Keeper) _ _ (call.Begin _) begun_in TouchesNone AltersNone _ (Err c.in-Err.refusal) tt refl none_named (λ told some s tracks. inl refl) (λ v. (λ e. cc, λ e. cc)) (λ v made e. cc) done.called done.survives in
       each_answered _ _ _ head _ c.draw-in-Err.result (drew _ _ c.draw-in-Err.result c.draw-in-Err.ensures.value c.draw-in-Err.ensures.moments c.draw-in-Err.ensures.next)
       (upload_denied _ _ _ head c.in-Err.refusal c.draw-in-Err.result put (called_of _ _ _ c.args.begin head _ is (called_behind _ _ _ _ _ _ _ _ c.stop_open.ensures.rests called))),
 )

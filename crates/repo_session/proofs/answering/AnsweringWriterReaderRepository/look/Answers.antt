@@ -7,7 +7,7 @@ use Rattle.repo_core.specs.Asks.{KeepsAll, SetsRow, TouchesNone}
 use Rattle.repo_core.specs.Devices.{devices}
 use Rattle.repo_core.specs.Looking.{found_in}
 use Rattle.repo_session.specs.Answering.{IsFree}
-use Rattle.repo_session.proofs.CoreCalls.{asked_plain, undamaged}
+use Rattle.repo_session.proofs.CoreCalls.{asked_plain, none_named, undamaged}
 use Rattle.repo_session.proofs.Gives.{found_refuses, found_stores, found_whole, look_gives}
 use Rattle.repo_session.proofs.Lookings.{free_after, looked_up}
 use Rattle.repo_session.proofs.Replied.{drew}
@@ -29,7 +29,7 @@ returns g c = λ head asked.
     looked_up _ g.D.Reader.Reader.left _ _ old head c.args.key c.args.look moment c.get-got.result c.looked-said.result.0 asked
     (drew _ _ moment c.draw-moment.ensures.value c.draw-moment.ensures.moments c.draw-moment.ensures.next)
     c.let_go.ensures.rests
-    (asked_plain on old new (call.Get c.args.key c.args.look moment remote.NotAsked) found_in TouchesNone (SetsRow c.args.key) KeepsAll c.get-got.result tt refl
+    (asked_plain on old new (call.Get c.args.key c.args.look moment remote.NotAsked) found_in TouchesNone (SetsRow c.args.key) KeepsAll c.get-got.result tt refl none_named
     (λ told some s tracks. inr (undamaged found_in c.get-got.result found_whole (got.whole told some s tracks))) found_refuses found_stores got.called got.survives)
     (λ told some s contents stands.
     look_gives on g.D.Reader.Reader.left g.D.Reader.Reader.size g.D.Reader.Reader.faults old new c.args.key c.args.look moment s contents stands c.get-got.result got.called told some
