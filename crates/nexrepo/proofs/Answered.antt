@@ -19,8 +19,11 @@ use Rattle.http_requests.specs.Requests.{Item}
 use Rattle.http_front.specs.Turns.{Setting, Turn, AreTurns, entries_of}
 use Rattle.http_front.proofs.SoundTurns.{sound_output}
 use Rattle.http_front.proofs.Histories.{turns_legal}
+use Rattle.disk_model.specs.Disk.{Tree, Lists}
+use Rattle.disk_model.specs.Moments.{Settled}
+use Rattle.repo_session.specs.Others.{OthersStay}
 use Rattle.repo_core.specs.Agree.{FilesAgree}
-use Rattle.repo_core.specs.Standing.{Tracks}
+use Rattle.repo_core.specs.Standing.{Tracks, IsDurable}
 use Rattle.repo_core.specs.View.{CoreView}
 use Rattle.repo_core.specs.Devices.{Devices}
 use Rattle.repo_session.specs.Standing.{Stands}
@@ -58,6 +61,12 @@ module _ {D T : Type 0} (devices : Devices D T) (moments : List Moment) (disk : 
     held = λ sound key asset is. let none : map.get {R = key_cmp} map.empty key ≡ None = map.get-empty {X = Asset} key_cmp key in absurd cc;
     older = λ blob has. absurd (none_there has);
   }
+
+  -- the opening settled nothing and unsettled nothing
+  still_durable : devices.told → IsDurable devices.tree devices.clock devices.lists disk → IsDurable devices.tree devices.clock devices.lists core.disk
+  still_durable told is =
+      subst (λ (t : Tree). Settled t (devices.lists core.disk (devices.clock core.disk))) (sym (opened.files told))
+      (subst (λ (l : Lists). Settled (devices.tree disk) l) (sym (opened.crash told)) is)
 
   module _ (new : CoreView D T) (over : Bool) (ran : Ran D T) (disk_is : ran.disk ≡ new.disk) (table_is : ran.table ≡ new.table) (journal_is : ran.journal ≡ new.journal) where
     stand_for : (state : State) → new.config ≡ core.config → Tracks devices.tree devices.table new state → new.broken ≡ None → StandFor devices (model_of opened.settings) new.disk new.table state
@@ -104,6 +113,12 @@ module _ {D T : Type 0} (devices : Devices D T) (moments : List Moment) (disk : 
               let lead = lead_on turns written runs.since.config (runs.leads fresh.told tells empty_state [] (stands_first ran.table fresh)) in
               subst (λ (d : D). LeadOn devices (setting_with opened.settings moments) over new.broken d ran.table turns written) (sym disk_is)
               (subst (λ (t : T). LeadOn devices (setting_with opened.settings moments) over new.broken new.disk t turns written) (sym table_is) lead);
+          durable = λ told sound is. subst (λ (d : D). IsDurable devices.tree devices.clock devices.lists d) (sym disk_is) (runs.since.durable told sound (still_durable told is));
+          others = λ fresh.
+              let tells : IsSome (devices.table new.table) = subst (λ (t : T). IsSome (devices.table t)) table_is fresh.tells in
+              let stay = (runs.since.others fresh.told tells empty_state (stands_first ran.table fresh).tracks).2 in
+              subst (λ (d : D). OthersStay (devices.tree disk) (devices.tree d)) (sym disk_is)
+              (subst (λ (t : Tree). OthersStay t (devices.tree new.disk)) (opened.files fresh.told) stay);
         }
 
     -- a download failed only where the disk's count rose

@@ -66,5 +66,6 @@ pub record IsOpened {D T : Type 0} (devices : Devices D T) (disk : D) (table : T
   pub fresh : core ≡ fresh_core core.disk table core.config 1 settings.journal
   pub config : config_of core.config ≡ model_of settings
   pub files : devices.told → devices.tree core.disk ≡ devices.tree disk
+  pub crash : devices.told → devices.lists core.disk (devices.clock core.disk) ≡ devices.lists disk (devices.clock disk)
   pub later : devices.disk_faults disk ≤ devices.disk_faults core.disk
   pub stands : devices.told → HasNoBlob (devices.tree disk) → rows_in (devices.table table) ≡ map.empty → Tracks devices.tree devices.table core empty_state

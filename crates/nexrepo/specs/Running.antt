@@ -23,6 +23,8 @@ use Rattle.repo_core.specs.Fresh.{HasNoBlob}
 use Rattle.repo_core.specs.Agree.{FilesAgree}
 use Rattle.repo_core.specs.Rows.{rows_in}
 use Rattle.repo_core.specs.Devices.{Devices}
+use Rattle.repo_core.specs.Standing.{IsDurable}
+use Rattle.repo_session.specs.Others.{OthersStay}
 use Rattle.repo_session.specs.Drawing.{draw_of}
 use Rattle.repo_session.specs.Turned.{disk_faults_in, keeper_faults_in}
 use Rattle.repo_session.specs.Serving.{LastEnds, all_stop_faults}
@@ -68,7 +70,8 @@ pub record LeadOn {D T : Type 0} (devices : Devices D T) (setting : Setting) (ov
   pub output : AreSound turns → IsOutput (output_of setting 0 0 empty_state [] (requests_of turns)) [] turns state contents
 
 -- The requests were answered with these bytes by turns of the repository: their entries are the journal, and the disk and the keeper failed
--- at least as often as they tell. Over fresh devices they lead on from the repository in which nothing was stored.
+-- at least as often as they tell. Over fresh devices they lead on from the repository in which nothing was stored, and the files that are no
+-- blob's stay. A disk on which everything is settled is settled again, unless the repository broke.
 pub record HasAnswered {D T : Type 0} (devices : Devices D T) (settings : Settings) (moments : List Moment) (over : Bool) (broken : Option Cause) (disk : D) (table : T) (ran : Ran D T) (requests : List Item) (written : List ℕ) : Type 0 where
   pub turns : List Turn
   pub asked : requests_of turns ≡ requests
@@ -76,6 +79,8 @@ pub record HasAnswered {D T : Type 0} (devices : Devices D T) (settings : Settin
   pub disk_failed : RoseBy (disk_faults_in (entries_of turns) + all_stop_faults turns) (devices.disk_faults disk) (devices.disk_faults ran.disk)
   pub keeper_failed : RoseBy (keeper_faults_in (entries_of turns)) (devices.keeper_faults table) (devices.keeper_faults ran.table)
   pub leads : IsFresh devices disk table ran.table → LeadOn devices (setting_with settings moments) over broken ran.disk ran.table turns written
+  pub durable : devices.told → broken ≡ None → IsDurable devices.tree devices.clock devices.lists disk → IsDurable devices.tree devices.clock devices.lists ran.disk
+  pub others : IsFresh devices disk table ran.table → OthersStay (devices.tree disk) (devices.tree ran.disk)
 
 -- A session was held with the settings that the configuration's file gives, and ended so. A download failed, over fresh devices, only where
 -- the disk's count rose.

@@ -50,6 +50,7 @@ fn read_text<D: Disk>(alloc: Global, disk: &mut D) -> Result<Option<Vec<u8>>, St
     ensures text { D.told → IfOk result (λ text. option_map (λ v. v.items) text ≡ option_map (λ bytes. take small_limit bytes) (D.tree disk.old config_file)) }
     ensures why { IfErr result (IsOpenRefusal D.told (D.tree disk.old config_file) (D.faults disk.old) (D.faults disk.new)) }
     ensures files { D.told → D.tree disk.new ≡ D.tree disk.old }
+    ensures crash { D.told → D.lists disk.new (D.clock disk.new) ≡ D.lists disk.old (D.clock disk.old) }
     ensures later { D.faults disk.old ≤ D.faults disk.new }
 {
     let Ok(name) = Name::parse(alloc, CONFIG_FILE) else {
@@ -67,6 +68,7 @@ fn read_config<D: Disk>(alloc: Global, disk: &mut D) -> Result<Config, Status>
     ensures given { D.told → IfOk result (FileGives (D.tree disk.old config_file)) }
     ensures why { IfErr result (IsOpenRefusal D.told (D.tree disk.old config_file) (D.faults disk.old) (D.faults disk.new)) }
     ensures files { D.told → D.tree disk.new ≡ D.tree disk.old }
+    ensures crash { D.told → D.lists disk.new (D.clock disk.new) ≡ D.lists disk.old (D.clock disk.old) }
     ensures later { D.faults disk.old ≤ D.faults disk.new }
 {
     let Some(text) = read_text(alloc, disk)? else {
