@@ -4,3 +4,4 @@ pub mod StepLemmas
 pub mod TailLemmas
 pub mod OneReading
 pub mod MoreBytes
+pub mod FoundLemmas

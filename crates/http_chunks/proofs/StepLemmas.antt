@@ -7,9 +7,9 @@ use Rattle.http_chunks.specs.declared.place.Place.TheVariants.{Line}
 use Rattle.http_chunks.specs.declared.chunks.Chunks.{Chunks}
 use Rattle.http_chunks.specs.Lines.{HasLine}
 use Rattle.http_chunks.specs.Body.{AreChunks, content_limit}
-use Rattle.http_chunks.specs.Places.{ReachesWith, IsBad}
+use Rattle.http_chunks.specs.Places.{ReachesWith}
 use Rattle.http_chunks.specs.Room.{left_at}
-use Rattle.http_chunks.specs.Reading.{Holds, bad, large}
+use Rattle.http_chunks.specs.Reading.{Holds, large}
 use Rattle.http_chunks.specs.Steps.{Took}
 
 -- what was taken, at a place that is known

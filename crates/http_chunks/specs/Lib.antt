@@ -6,3 +6,4 @@ pub mod Room
 pub mod Reading
 pub mod Steps
 pub mod Runs
+pub mod Found

@@ -6,7 +6,8 @@
 //!   have at most 16,384 with the empty one, and the content has at most 1,073,741,824.
 //! - A *reading* (`Reading`, `Holds` in specs/Reading.antt) is what a stream holds where a body is wanted: a whole one, with
 //!   its content and what follows it; one that is refused, with its place; one that would be too large; or one that the
-//!   stream ends in. [`laws`] says that there is just one, and that no more bytes change a body that is whole or refused.
+//!   stream ends in. [`some_reading`] says that there is one, and [`laws`] that there is
+//!   no other, and that no more bytes change a body that is whole or refused.
 //! - [`Chunks`] says of the next bytes how many are framing or content. Its contract speaks of all that it took before, so
 //!   that the steps say the same in whatever pieces the bytes come ([`laws::any_pieces`]).
 //!
@@ -15,6 +16,7 @@
 
 mod chunk_step;
 mod chunks;
+mod found;
 pub mod laws;
 mod line_feed;
 mod place;
@@ -22,3 +24,4 @@ mod size_line;
 
 pub use chunk_step::ChunkStep;
 pub use chunks::Chunks;
+pub use found::some_reading;

@@ -19,6 +19,10 @@ use Rattle.http_heads.specs.Fields.{Pair, Values, values_in}
 use Rattle.http_heads.specs.Kept.{values_kept, IsKeepable, Keeps}
 use Rattle.http_heads.specs.Gives.{GivesOr}
 use Rattle.http_heads.specs.Head.{IsTooLong, IsWholeHead, judge_of, GivesHead}
+use Rattle.http_heads.specs.Found.{HasAnswer}
+use Rattle.http_heads.specs.Parse.{GivesParse}
+use Rattle.http_heads.specs.declared.parse.Parse.{Parse}
+use Rattle.http_heads.specs.declared.parse.Parse.TheVariants as parses
 use Rattle.http_heads.proofs.JudgeLemmas.{OnlyJudges, judge_judges}
 
 -- the answer to a text that was read whole
@@ -88,3 +92,19 @@ all_keepable text spans fields short same valid k d lt =
     let long : length (header_bytes text (get_or spans k d)).0 ≤ 65535 = omega (arith, length-span text (get_or spans k d).name.start (get_or spans k d).name.end) in
     let name : length field.name ≤ 65535 = omega (arith, long, ap (λ (p : Pair). length p.0) is) in
     subst IsKeepable (sym is) ((name_token field.name ok.name, name), AllPass-trim_ows grammar.is_value_byte field.raw ok.raw)
+
+-- ---- each text has an answer
+
+pub some_answer : (text : List ℕ) (fields : List HeaderSpan) (parse : Parse) → (IsTooLong text → ⊥) → GivesParse text 64 fields parse → HasAnswer text
+some_answer text fields (parses.Whole spans) fits (within, head, found, reads, room) =
+    let values = values_in (map name_and_value head.fields) in
+    let only : OnlyJudges (judge_of head) = judge_judges head.method head.target head.minor values in (
+      judge_of head,
+      gives_head text head (judge_of head) (record { fits = fits; reads = reads; room = room }) (inr refl),
+      λ e. subst OnlyJudges e only,
+    )
+some_answer text fields parses.TooManyHeaders fits more = (Err TooManyHeaders, (fits, more), λ e. absurd cc)
+some_answer text fields parses.BadHead fits none = (Err BadHead, (fits, none), λ e. absurd cc)
+
+pub too_long_answer : (text : List ℕ) → IsTooLong text → HasAnswer text
+too_long_answer text long = (Err HeadTooLarge, long, λ e. absurd cc)

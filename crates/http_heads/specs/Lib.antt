@@ -8,3 +8,4 @@ pub mod Kept
 pub mod Parse
 pub mod Gives
 pub mod Response
+pub mod Found

@@ -99,7 +99,7 @@ fn has_no_head(text: &[u8]) -> bool
 
 // Whether a text is no head because it is too long.
 #[tactic(auto, unfolding(crate::specs::Cut::head_limit))]
-fn is_too_long(text: &[u8]) -> bool
+pub(crate) fn is_too_long(text: &[u8]) -> bool
     ensures { IsTrue result ↔ IsTooLong text.now }
 {
     text.len() > HEAD_LIMIT || (text.len() == HEAD_LIMIT && has_no_head(text))

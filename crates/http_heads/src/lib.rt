@@ -16,6 +16,7 @@
 #![tactic(auto)]
 
 mod accepted;
+mod answered;
 mod body_err;
 mod cut;
 mod framing;
@@ -33,6 +34,7 @@ mod response;
 mod target;
 mod words;
 
+pub use answered::some_answer;
 pub use body_err::BodyErr;
 pub use cut::{blank_len, head_len};
 pub use framing::Framing;
