@@ -1,2 +1,4 @@
 pub mod FirstHeads
 pub mod Unique
+pub mod Firsts
+pub mod FoundHeads

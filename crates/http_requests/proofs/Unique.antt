@@ -9,9 +9,10 @@ use Rattle.http_heads.specs.Cut.{drop_blank}
 use Rattle.http_chunks.specs.Reading as readings
 use Rattle.http_chunks.specs.Reading.{Reading, Holds}
 use Rattle.http_chunks.proofs.OneReading.{one_reading}
-use Rattle.http_requests.specs.Heads.{IsRefused, EndsInHead, merged_cause}
+use Rattle.http_requests.specs.Heads.{merged_cause}
 use Rattle.http_requests.specs.Bodies.{HoldsLength, HoldsBody}
 use Rattle.http_requests.specs.Requests.{Item, refused, whole, stopped, cut, Asks, AreRequests, merged}
+use Rattle.http_requests.specs.Found.{Opening, over, inside_head, refusal, asked, Opens}
 use Rattle.http_requests.proofs.FirstHeads.{one_split, accepts_same, accepts_refused, refused_same, refused_some, refused_open, accepts_some, accepts_open, open_some}
 
 -- ---- one content
@@ -48,18 +49,6 @@ asks_same bytes head other a b x y =
 
 -- ---- one opening of a stream
 
-data Opening : Type 0 where
-  over : Opening
-  inside_head : Opening
-  refusal : HeadErr → Bool → Opening
-  asked : Head → Reading → Opening
-
-Opens : List ℕ → Opening → Type 0
-Opens bytes over = bytes ≡ []
-Opens bytes inside_head = EndsInHead bytes
-Opens bytes (refusal why bare) = IsRefused bytes why bare
-Opens bytes (asked head reading) = Asks bytes head reading
-
 SameOpening : Opening → Opening → Type 0
 SameOpening over over = Unit {0}
 SameOpening inside_head inside_head = Unit {0}
@@ -68,7 +57,7 @@ SameOpening (asked h r) (asked k s) = (h ≡ k) × (r ≡ s)
 SameOpening o p = ⊥
 
 opens_same : (bytes : List ℕ) (o p : Opening) → Opens bytes o → Opens bytes p → SameOpening o p
-unfolding Opens SameOpening
+unfolding SameOpening
 opens_same bytes over over x y = tt
 opens_same bytes over inside_head x y = open_some bytes y x
 opens_same bytes over (refusal f c) x y = refused_some bytes f c y x
@@ -104,7 +93,7 @@ Opened : List ℕ → List Item → Bool → Type 0
 Opened bytes items inside = (o : Opening) × Opens (drop_blank bytes) o × Follows o items inside
 
 opened : (bytes : List ℕ) (items : List Item) (inside : Bool) → AreRequests bytes items inside → Opened bytes items inside
-unfolding Opened Opens Follows Goes
+unfolding Opened Follows Goes
 opened bytes [] true x = (inside_head, x, (refl, refl))
 opened bytes [] false x = (over, x, (refl, refl))
 opened bytes (refused why bare ∷ items) inside x = (refusal why bare, x.0, (ap (λ (more : List Item). refused why bare ∷ more) x.1, x.2))

@@ -1,3 +1,4 @@
 pub mod Heads
 pub mod Bodies
 pub mod Requests
+pub mod Found
