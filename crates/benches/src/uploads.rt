@@ -1,11 +1,6 @@
 //! Uploads a content of so many parts of 32 KiB of the letter `A` into a file that keeps nothing, then one byte more, and tells
-//! the size, the SHA-1 and whether that byte was refused. The word is the number of parts: of 32,768 the byte is one too many.
-#![tactic(auto)]
-
+//! the size, the SHA-1 and whether that byte was refused: of 32,768 parts it is one too many.
 ghost use Rattle.std.specs.Prelude.{IsSome, IfOk};
-
-mod drain;
-mod stop;
 
 use crate::drain::Drain;
 use crate::stop::Stop;
@@ -13,7 +8,6 @@ use blob_files::{Ready, Upload};
 use nx_base::{AssetPath, ContentType, Key, RepoName, StoreName};
 use repo_model::{Begin, Kind, UploadErr};
 use std::alloc::Global;
-use std::env;
 
 /// An upload of which nothing was taken.
 fn begun(alloc: Global) -> Result<Upload<Drain>, Stop>
@@ -76,8 +70,8 @@ fn fill(upload: &mut Upload<Drain>, parts: u64) -> Result<Sum, Stop>
     })
 }
 
-/// Does all that the word asks for.
-fn measure(rt: &HostRuntime, parts: u64) -> Result<(), Stop> {
+/// One upload of so many parts.
+fn measure_one(rt: &HostRuntime, parts: u64) -> Result<(), Stop> {
     let mut upload = begun(rt.alloc())?;
     let filled = fill(&mut upload, parts);
     upload.abort();
@@ -92,13 +86,10 @@ fn measure(rt: &HostRuntime, parts: u64) -> Result<(), Stop> {
     Ok(())
 }
 
-fn main(rt: HostRuntime) -> Result<(), Stop> {
-    let mut words = env::args(&rt)?;
-    match words.nth(1) {
-        Some(word) => match word.parse::<u64>() {
-            Ok(parts) => measure(&rt, parts),
-            Err(_) => Err(Stop::Words),
-        },
-        None => Err(Stop::Words),
+/// So many uploads of so many parts each.
+pub fn measure(rt: &HostRuntime, parts: u64, turns: u64) -> Result<(), Stop> {
+    for _ in 0..turns {
+        measure_one(rt, parts)?;
     }
+    Ok(())
 }

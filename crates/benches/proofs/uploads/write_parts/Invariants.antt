@@ -1,5 +1,5 @@
 use Rattle.std.proofs.Common.{IsSome}
-use Rattle.upload_bench.proofs.write_parts.Given as goal
+use Rattle.benches.proofs.uploads.write_parts.Given as goal
 
 abbrev pub invariant-loop : goal.invariant-loop
 invariant-loop l = IsSome l.upload.target

@@ -1,28 +1,13 @@
-//! How long a keeper in memory takes to get a row, to set one, and to read a page of one row, each at the middle of its
-//! table. The words are how many rows the table has, how often each is done, and `timed` if the times are wanted:
-//! they differ from run to run. The times are in nanoseconds.
-#![tactic(auto)]
-
+//! How long a keeper in memory takes to get a row, to set one, and to read a page of one row, each at the middle of its table.
 ghost use Rattle.std.specs.Prelude.{IsTrue, IfOk, IfSome};
 ghost use Rattle.asset_keeper.specs.Ranges.{in_range};
 
-mod stop;
-
+use crate::keys::key;
 use crate::stop::Stop;
 use asset_keeper::{Change, Generation, Keeper, MapKeeper};
-use nx_base::{Asset, AssetPath, BlobId, BlobRef, ContentType, Key, RepoName, Row, StoreName};
+use nx_base::{Asset, BlobId, BlobRef, ContentType, Key, Row, StoreName};
 use std::alloc::Global;
-use std::env;
 use std::time::Instant;
-
-/// The key with that number. Keys are in the order of their numbers.
-fn key(alloc: Global, number: u64) -> Result<Key, Stop> {
-    let path = format!(in alloc; "p/{number:010}")?;
-    Ok(Key {
-        repo: RepoName::parse(alloc, b"files")?,
-        path: AssetPath::parse(alloc, path.as_bytes())?,
-    })
-}
 
 /// The row with that number.
 fn row(alloc: Global, number: u64) -> Result<Row, Stop>
@@ -86,8 +71,8 @@ fn pages<K: Keeper>(keeper: &mut K, key: &Key, turns: u64) -> Result<u64, Stop> 
     Ok(read)
 }
 
-/// Does all that the words ask for.
-fn measure(rt: &HostRuntime, rows: u64, turns: u64, is_timed: bool) -> Result<(), Stop> {
+/// Over a table of so many rows, does each so often.
+pub fn measure(rt: &HostRuntime, rows: u64, turns: u64, is_timed: bool) -> Result<(), Stop> {
     let alloc = rt.alloc();
     let middle = rows / 2;
     let mut keeper = filled(alloc, rows)?;
@@ -109,24 +94,4 @@ fn measure(rt: &HostRuntime, rows: u64, turns: u64, is_timed: bool) -> Result<()
         println!(rt; "page {paged}")?;
     }
     Ok(())
-}
-
-/// The words behind the program's name.
-fn words_of(rt: &HostRuntime) -> Result<Vec<String>, Stop> {
-    let mut words = Vec::new(rt.alloc());
-    for word in env::args(rt)?.skip(1) {
-        words.push(word)?;
-    }
-    Ok(words)
-}
-
-fn main(rt: HostRuntime) -> Result<(), Stop> {
-    let words = words_of(&rt)?;
-    let [rows, turns, timed @ ..] = words.as_slice() else {
-        return Err(Stop::Words);
-    };
-    match (rows.parse::<u64>(), turns.parse::<u64>()) {
-        (Ok(rows), Ok(turns)) => measure(&rt, rows, turns, !timed.is_empty()),
-        _ => Err(Stop::Words),
-    }
 }

@@ -1,17 +1,9 @@
 //! How long a repository over the disk and the table in memory takes for PUTs and GETs, among its first ones and among its
-//! last. The words are how many paths are put, how many calls are timed at a time, and `timed` if the times are wanted: they
-//! differ from run to run. The times are in nanoseconds.
-#![tactic(auto)]
-
-mod caller;
-mod fresh;
-mod stop;
-
+//! last.
 use crate::caller::Caller;
 use crate::fresh::fresh_caller;
 use crate::stop::Stop;
 use std::alloc::Global;
-use std::env;
 use std::time::{Duration, Instant};
 
 /// What a block of calls came to: how many GETs gave a content, and how long the PUTs and the GETs took.
@@ -76,27 +68,7 @@ fn measure(
 }
 
 /// The same over a fresh repository.
-fn measure_fresh(rt: &HostRuntime, paths: u64, calls: u64, is_timed: bool) -> Result<(), Stop> {
+pub fn measure_fresh(rt: &HostRuntime, paths: u64, calls: u64, is_timed: bool) -> Result<(), Stop> {
     let mut caller = fresh_caller(rt.alloc())?;
     measure(rt, &mut caller, paths, calls, is_timed)
-}
-
-/// The words behind the program's name.
-fn words_of(rt: &HostRuntime) -> Result<Vec<String>, Stop> {
-    let mut words = Vec::new(rt.alloc());
-    for word in env::args(rt)?.skip(1) {
-        words.push(word)?;
-    }
-    Ok(words)
-}
-
-fn main(rt: HostRuntime) -> Result<(), Stop> {
-    let words = words_of(&rt)?;
-    let [paths, calls, timed @ ..] = words.as_slice() else {
-        return Err(Stop::Words);
-    };
-    match (paths.parse::<u64>(), calls.parse::<u64>()) {
-        (Ok(paths), Ok(calls)) => measure_fresh(&rt, paths, calls, !timed.is_empty()),
-        _ => Err(Stop::Words),
-    }
 }

@@ -1,11 +1,13 @@
+use asset_keeper::KeepErr;
 use nx_base::{NameErr, NoMemory};
+use repo_model::UploadErr;
 use std::alloc::{AllocError, AllocFailed};
 use std::io;
 
 /// Why nothing was measured.
 #[derive(Debug, Drop)]
 pub enum Stop {
-    /// The words aren't two numbers.
+    /// The words name no bench, or lack a number.
     Words,
     /// The configuration isn't one.
     Config,
@@ -14,6 +16,8 @@ pub enum Stop {
     Name(NameErr),
     /// A PUT or a GET was refused.
     Refused,
+    Keep(KeepErr),
+    Upload(UploadErr),
     Io(io::Error),
     Memory,
 }
@@ -21,6 +25,18 @@ pub enum Stop {
 impl From<NameErr> for Stop {
     fn from(e: NameErr) -> Stop {
         Stop::Name(e)
+    }
+}
+
+impl From<KeepErr> for Stop {
+    fn from(e: KeepErr) -> Stop {
+        Stop::Keep(e)
+    }
+}
+
+impl From<UploadErr> for Stop {
+    fn from(e: UploadErr) -> Stop {
+        Stop::Upload(e)
     }
 }
 

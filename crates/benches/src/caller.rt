@@ -2,11 +2,12 @@
 ghost use Rattle.std.specs.Prelude.{◌≡◌, ◌≤◌, slice_get, Some, None, IsSome, IfOk};
 ghost use Rattle.repo_model.specs.declared.call.Kind.TheVariants as kinds;
 
+use crate::keys::key;
 use crate::stop::Stop;
 use asset_keeper::MapKeeper;
 use blob_files::{Download, Ready, Upload};
 use disk_model::{MemDisk, MemReader, MemSealed, MemWriter};
-use nx_base::{AssetPath, ContentType, Key, Moment, RepoName};
+use nx_base::{ContentType, Moment};
 use repo_core::Core;
 use repo_model::{Begin, GotOf, Kind, Look, UploadErr};
 use std::alloc::Global;
@@ -22,15 +23,6 @@ const NOW: u64 = 1_700_000_000_000;
 pub struct Caller {
     core: Core<MemDisk, MapKeeper>,
     ghost free: { slice_get core.holds 0 ≡ Some None },
-}
-
-/// The key with that number. Keys are in the order of their numbers.
-fn key(alloc: Global, number: u64) -> Result<Key, Stop> {
-    let path = format!(in alloc; "p/{number:010}")?;
-    Ok(Key {
-        repo: RepoName::parse(alloc, b"files")?,
-        path: AssetPath::parse(alloc, path.as_bytes())?,
-    })
 }
 
 fn begin_of(alloc: Global, number: u64) -> Result<Begin, Stop>
