@@ -4,13 +4,13 @@ use Rattle.http_chunks.specs.declared.chunks.Chunks.{Chunks}
 use Rattle.http_chunks.specs.declared.chunk_step.ChunkStep.{ChunkStep}
 use Rattle.http_chunks.specs.declared.chunk_step.ChunkStep.TheVariants.{Framing, Content, Need, End, BadChunk, BodyTooLarge}
 use Rattle.http_chunks.specs.Runs.{Finishes, IsLastStep}
-use Rattle.http_chunks.specs.Steps.{Took, Says}
+use Rattle.http_chunks.specs.Steps.{TookText, StepSays}
 use Rattle.http_chunks.specs.Found.{EndsReading}
 use Rattle.http_chunks.proofs.MoreBytes.{said_as_read}
 
 -- where its last step is said, the reading is there
 pub ends_reading : (old new : Chunks) (bytes : List ℕ) (step : ChunkStep) → IsLastStep step []
-    → ((text content : List ℕ) → Took old text content → Says text content bytes old.place new step) → EndsReading old bytes
+    → ((text content : List ℕ) → TookText old text content → StepSays text content bytes old.place new step) → EndsReading old bytes
 ends_reading old new bytes step last says text taken =
     let finish : Finishes (text ++ bytes) taken.0 step = record {
       text = text;

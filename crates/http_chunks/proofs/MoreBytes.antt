@@ -9,7 +9,7 @@ use Rattle.http_chunks.specs.declared.chunk_step.ChunkStep.TheVariants.{Framing,
 use Rattle.http_chunks.specs.Trailers.{IsFirstFeed, IsBadTrailer}
 use Rattle.http_chunks.specs.Places.{IsNoEnd, IsBad, IsTooLarge}
 use Rattle.http_chunks.specs.Reading.{Reading, whole, bad, large, cut, Reaches, Holds, IsSettled, followed_by}
-use Rattle.http_chunks.specs.Steps.{Took, Says}
+use Rattle.http_chunks.specs.Steps.{TookText, StepSays}
 use Rattle.http_chunks.specs.Runs.{IsLastStep, Finishes, IsSaidBy}
 use Rattle.http_chunks.proofs.LineLemmas.{line-append, bad_line-append}
 use Rattle.http_chunks.proofs.OneReading.{one_reading}
@@ -70,8 +70,8 @@ settled_stays stream more (large content) h s = (h.0, h.1 ++ more, reaches-appen
 settled_stays stream more (cut content) h s = absurd s
 
 -- what the last step says of the stream
-said : (stream text content bytes more : List ℕ) (old new : Chunks) (step : ChunkStep) → stream ≡ (text ++ bytes) ++ more → Took old text content
-    → Says text content bytes old.place new step → IsLastStep step more → (f : Reading) × Holds stream f × IsSaidBy f content step
+said : (stream text content bytes more : List ℕ) (old new : Chunks) (step : ChunkStep) → stream ≡ (text ++ bytes) ++ more → TookText old text content
+    → StepSays text content bytes old.place new step → IsLastStep step more → (f : Reading) × Holds stream f × IsSaidBy f content step
 said stream text content bytes more old new (Framing n) e took says last = absurd last
 said stream text content bytes more old new (Content n) e took says last = absurd last
 said stream text content bytes more old new Need e took says last =

@@ -10,13 +10,13 @@ use Rattle.http_chunks.specs.Body.{AreChunks, content_limit}
 use Rattle.http_chunks.specs.Places.{ReachesWith}
 use Rattle.http_chunks.specs.Room.{left_at}
 use Rattle.http_chunks.specs.Reading.{Holds, large}
-use Rattle.http_chunks.specs.Steps.{Took}
+use Rattle.http_chunks.specs.Steps.{TookText}
 
 -- what was taken, at a place that is known
-pub place_of : (chunks : Chunks) (place : Place) (text content : List ℕ) → chunks.place ≡ place → Took chunks text content → ReachesWith place text content
+pub place_of : (chunks : Chunks) (place : Place) (text content : List ℕ) → chunks.place ≡ place → TookText chunks text content → ReachesWith place text content
 place_of chunks place text content is took = subst (λ (p : Place). ReachesWith p text content) is took.place
 
-pub total_of : (chunks : Chunks) (place : Place) (text content : List ℕ) → chunks.place ≡ place → Took chunks text content → chunks.total ≡ length content + left_at place
+pub total_of : (chunks : Chunks) (place : Place) (text content : List ℕ) → chunks.place ≡ place → TookText chunks text content → chunks.total ≡ length content + left_at place
 total_of chunks place text content is took = took.total ∙ ap (λ (p : Place). length content + left_at p) is
 
 pub large_at : (text content bytes rest : List ℕ) (line : ChunkLine) → AreChunks text content → HasLine bytes line rest → content_limit < length content + chunk_size line

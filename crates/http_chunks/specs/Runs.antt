@@ -4,7 +4,7 @@ use Rattle.http_chunks.specs.declared.chunks.Chunks.{Chunks}
 use Rattle.http_chunks.specs.declared.chunk_step.ChunkStep.{ChunkStep}
 use Rattle.http_chunks.specs.declared.chunk_step.ChunkStep.TheVariants.{Framing, Content, Need, End, BadChunk, BodyTooLarge}
 use Rattle.http_chunks.specs.Reading.{Reading, whole, bad, large, cut}
-use Rattle.http_chunks.specs.Steps.{Took, Says}
+use Rattle.http_chunks.specs.Steps.{TookText, StepSays}
 
 -- no step comes after this one: more bytes are needed where none follow, the body ended, or it was refused
 abbrev pub IsLastStep : ChunkStep → List ℕ → Type 0
@@ -23,8 +23,8 @@ pub record Finishes (stream content : List ℕ) (step : ChunkStep) : Type 0 wher
   pub old : Chunks
   pub new : Chunks
   pub parts : stream ≡ (text ++ bytes) ++ more
-  pub took : Took old text content
-  pub says : Says text content bytes old.place new step
+  pub took : TookText old text content
+  pub says : StepSays text content bytes old.place new step
   pub ends : IsLastStep step more
 
 -- the last step that a reading is said by

@@ -10,7 +10,7 @@ use Rattle.http_chunks.specs.Room.{left_at}
 use Rattle.http_chunks.specs.Reading.{Holds, bad, large}
 
 -- the reader has taken this text, a prefix of a body, which has this content
-pub record Took (chunks : Chunks) (text content : List ℕ) : Type 0 where
+pub record TookText (chunks : Chunks) (text content : List ℕ) : Type 0 where
   pub place : ReachesWith chunks.place text content
   pub at : chunks.at ≡ length text
   pub total : chunks.total ≡ length content + left_at chunks.place
@@ -34,10 +34,10 @@ KeepsUnlessTaken old new (BadChunk at) = new ≡ old
 KeepsUnlessTaken old new BodyTooLarge = new ≡ old
 
 -- what a step says of the bytes behind a text with this content
-abbrev pub Says : List ℕ → List ℕ → List ℕ → Place → Chunks → ChunkStep → Type 0
-Says text content bytes place new (Framing n) = Took new (text ++ take n bytes) content
-Says text content bytes place new (Content n) = Took new (text ++ take n bytes) (content ++ take n bytes)
-Says text content bytes place new Need = IsOpen place bytes
-Says text content bytes place new End = IsBody text content
-Says text content bytes place new (BadChunk at) = Holds (text ++ bytes) (bad content at)
-Says text content bytes place new BodyTooLarge = Holds (text ++ bytes) (large content)
+abbrev pub StepSays : List ℕ → List ℕ → List ℕ → Place → Chunks → ChunkStep → Type 0
+StepSays text content bytes place new (Framing n) = TookText new (text ++ take n bytes) content
+StepSays text content bytes place new (Content n) = TookText new (text ++ take n bytes) (content ++ take n bytes)
+StepSays text content bytes place new Need = IsOpen place bytes
+StepSays text content bytes place new End = IsBody text content
+StepSays text content bytes place new (BadChunk at) = Holds (text ++ bytes) (bad content at)
+StepSays text content bytes place new BodyTooLarge = Holds (text ++ bytes) (large content)

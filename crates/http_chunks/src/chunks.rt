@@ -29,11 +29,11 @@ pub struct Chunks {
 
 impl Chunks {
     ghost use Rattle.std.specs.Prelude.{◌≡◌, ℕ, List, [], length};
-    ghost use Rattle.http_chunks.specs.Steps.{Took, IsWithin, KeepsUnlessTaken, Says};
+    ghost use Rattle.http_chunks.specs.Steps.{TookText, IsWithin, KeepsUnlessTaken, StepSays};
 
     /// A reader that has taken nothing.
     pub fn new() -> Chunks
-        ensures { Took result [] [] }
+        ensures { TookText result [] [] }
     {
         Chunks {
             place: Place::Line,
@@ -47,7 +47,7 @@ impl Chunks {
         requires { self.old.place ≡ Place.Line }
         ensures within { IsWithin (length bytes.now) result }
         ensures kept { KeepsUnlessTaken self.old self.new result }
-        ensures says { (text content : List ℕ) → Took self.old text content → Says text content bytes.now self.old.place self.new result }
+        ensures says { (text content : List ℕ) → TookText self.old text content → StepSays text content bytes.now self.old.place self.new result }
     {
         match size_line(bytes) {
             LineStep::Need => ChunkStep::Need,
@@ -74,7 +74,7 @@ impl Chunks {
         requires { self.old.place ≡ Place.Inside left }
         ensures within { IsWithin (length bytes.now) result }
         ensures kept { KeepsUnlessTaken self.old self.new result }
-        ensures says { (text content : List ℕ) → Took self.old text content → Says text content bytes.now self.old.place self.new result }
+        ensures says { (text content : List ℕ) → TookText self.old text content → StepSays text content bytes.now self.old.place self.new result }
     {
         if bytes.is_empty() {
             return ChunkStep::Need;
@@ -97,7 +97,7 @@ impl Chunks {
         requires { self.old.place ≡ Place.After }
         ensures within { IsWithin (length bytes.now) result }
         ensures kept { KeepsUnlessTaken self.old self.new result }
-        ensures says { (text content : List ℕ) → Took self.old text content → Says text content bytes.now self.old.place self.new result }
+        ensures says { (text content : List ℕ) → TookText self.old text content → StepSays text content bytes.now self.old.place self.new result }
     {
         if bytes.is_empty() {
             return ChunkStep::Need;
@@ -121,7 +121,7 @@ impl Chunks {
         requires { self.old.place ≡ Place.Trailer taken }
         ensures within { IsWithin (length bytes.now) result }
         ensures kept { KeepsUnlessTaken self.old self.new result }
-        ensures says { (text content : List ℕ) → Took self.old text content → Says text content bytes.now self.old.place self.new result }
+        ensures says { (text content : List ℕ) → TookText self.old text content → StepSays text content bytes.now self.old.place self.new result }
     {
         let bad = ChunkStep::BadChunk {
             at: self.at - taken,
@@ -149,14 +149,14 @@ impl Chunks {
         ChunkStep::Framing { length }
     }
 
-    /// Says what the next bytes are, and takes them where they are framing or content. It never takes memory.
+    /// StepSays what the next bytes are, and takes them where they are framing or content. It never takes memory.
     pub fn next(&mut self, bytes: &[u8]) -> ChunkStep
         // At least one byte is taken, and no more than are there.
         ensures within { IsWithin (length bytes.now) result }
         // Where none is, nothing changes: the step comes again.
         ensures kept { KeepsUnlessTaken self.old self.new result }
         // Whatever was taken before, in whatever pieces.
-        ensures says { (text content : List ℕ) → Took self.old text content → Says text content bytes.now self.old.place self.new result }
+        ensures says { (text content : List ℕ) → TookText self.old text content → StepSays text content bytes.now self.old.place self.new result }
     {
         match self.place {
             Place::Line => self.next_line(bytes),

@@ -18,13 +18,13 @@ use Rattle.http_front.specs.declared.stop.Stop.TheVariants as stops
 use Rattle.http_front.specs.Responses.{why_stopped}
 use Rattle.http_front.specs.Contents.{Contents, asset_content, with_content}
 use Rattle.http_front.specs.Entries.{own, others}
-use Rattle.http_front.specs.Answers.{Answer, behind, last_refusal, said_before, last_reply, reply_to, put_answer, unstopped, response_of}
+use Rattle.http_front.specs.Answers.{Answer, preceded, last_refusal, said_before, last_reply, reply_to, put_answer, unstopped, response_of}
 use Rattle.http_front.specs.Said.{said}
 use Rattle.http_front.specs.Served.{Serves}
-use Rattle.http_front.specs.Turns.{Setting, Turn, Makes, AreTurns, contents_after, answer_of, requests_of, entries_of, stops_of, turns_said}
+use Rattle.http_front.specs.Turns.{Setting, Turn, Makes, AreTurns, contents_after, turn_answer, requests_of, entries_of, stops_of, turns_said}
 use Rattle.http_front.proofs.Own.{Splits, splits}
 
--- more contents behind
+-- more contents preceded
 
 abbrev Grows : Contents → Contents → Type 0
 Grows k l = (more : Contents) × (l ≡ k ++ more)
@@ -78,7 +78,7 @@ same_response : (q : Item) (stop : Option Stop) (k l : Contents) (es : List Entr
     → response_of k q stop es ≡ response_of l q stop es
 unfolding response_of
 same_response q stop k l es e =
-    ap (λ (x : Answer). given stop x (λ (s : Stop). behind (said_before q es) (last_refusal (is_bare q) (why_stopped s)))) (same_unstopped q k l es e)
+    ap (λ (x : Answer). given stop x (λ (s : Stop). preceded (said_before q es) (last_refusal (is_bare q) (why_stopped s)))) (same_unstopped q k l es e)
 
 stop_ends : (q : Item) (s : Stop) (k : Contents) (es : List Entry) → (response_of k q (Some s) es).ends ≡ true
 unfolding response_of
@@ -97,10 +97,10 @@ none_fits (t ∷ ts) setting n number s new k l h (mid, is, end, rest) =
     ap (λ (es : List Entry). es ++ entries_of ts) (makes_none setting t n number s mid t.entries h is.makes)
     ∙ none_fits ts setting (n + 1) (number + length t.entries) mid new (contents_after t k) l (omega arith) rest
 
--- behind a stop no turn comes
-none_behind : (t : Turn) (ts : List Turn) (k : Contents) (s : Stop) → t.stop ≡ Some s → ((answer_of k t).ends ≡ false) ⊎ (ts ≡ []) → entries_of ts ≡ []
+-- preceded a stop no turn comes
+none_behind : (t : Turn) (ts : List Turn) (k : Contents) (s : Stop) → t.stop ≡ Some s → ((turn_answer k t).ends ≡ false) ⊎ (ts ≡ []) → entries_of ts ≡ []
 none_behind t ts k s e (inl goes) =
-    let ends : (answer_of k t).ends ≡ true =
+    let ends : (turn_answer k t).ends ≡ true =
     ap (λ (x : Option Stop). (response_of (contents_after t k) t.request x t.entries).ends) e ∙ stop_ends t.request s (contents_after t k) t.entries in
     cc
 none_behind t ts k s e (inr none) = ap entries_of none
@@ -111,7 +111,7 @@ said_at : (q : Item) (qs : List Item) (stop : Option Stop) (stops : List (Option
     → said (q ∷ qs) es k (stop ∷ stops) ≡ a.bytes ++ (if a.ends then [] else said qs left k stops)
 said_at q qs stop stops es mine left k a x y z = rw (x, y, z) refl
 
--- what is said behind it
+-- what is said preceded it
 rest_said : (b : Bool) (ts : List Turn) (k : Contents) (rest : List ℕ) → (b ≡ false) ⊎ (ts ≡ []) → rest ≡ turns_said k ts
     → (if b then [] else rest) ≡ turns_said k ts
 rest_said false ts k rest end e = e
@@ -129,8 +129,8 @@ turns_are_said (t ∷ ts) setting n number s new k l (mid, is, end, rest) =
     let more : Grows (contents_after t k) l = grows ts setting (n + 1) (number + length t.entries) mid new (contents_after t k) l rest in
     let same : asset_content l (last_reply t.entries) ≡ asset_content (contents_after t k) (last_reply t.entries) =
     ap (λ (c : Contents). asset_content c (last_reply t.entries)) more.1 ∙ kept (last_reply t.entries) (contents_after t k) more.0 is.served in
-    said_at t.request (requests_of ts) t.stop (stops_of ts) (t.entries ++ entries_of ts) t.entries (entries_of ts) l (answer_of k t)
+    said_at t.request (requests_of ts) t.stop (stops_of ts) (t.entries ++ entries_of ts) t.entries (entries_of ts) l (turn_answer k t)
     own.mine own.left (same_response t.request t.stop l (contents_after t k) t.entries same)
-    ∙ ap (λ (x : List ℕ). (answer_of k t).bytes ++ x)
-    (rest_said (answer_of k t).ends ts (contents_after t k) (said (requests_of ts) (entries_of ts) l (stops_of ts)) end
+    ∙ ap (λ (x : List ℕ). (turn_answer k t).bytes ++ x)
+    (rest_said (turn_answer k t).ends ts (contents_after t k) (said (requests_of ts) (entries_of ts) l (stops_of ts)) end
     (turns_are_said ts setting (n + 1) (number + length t.entries) mid new (contents_after t k) l rest))

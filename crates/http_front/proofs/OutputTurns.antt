@@ -17,9 +17,9 @@ use Rattle.repo_model.specs.Step.{sound_outcome, outcome}
 use Rattle.http_requests.specs.Requests.{Item}
 use Rattle.http_front.specs.Contents.{Contents}
 use Rattle.http_front.specs.Calls.{next_call, store_in}
-use Rattle.http_front.specs.Turns.{Setting, Turn, FollowsAt, Makes, IsTurn, contents_after, answer_of}
+use Rattle.http_front.specs.Turns.{Setting, Turn, FollowsAt, Makes, IsTurn, contents_after, turn_answer}
 use Rattle.http_front.specs.Output.{done_by, entry_of, Made, with_entry, made_in, made_by, Output, at_end, in_front, output_of}
-use Rattle.http_front.specs.TurnLaws.{AllServed, HasTurns}
+use Rattle.http_front.specs.TurnLaws.{AllServed, IsOfTurns}
 use Rattle.http_front.proofs.Made.{none_behind}
 use Rattle.http_front.proofs.SoundTurns.{in_front_is}
 
@@ -70,10 +70,10 @@ made_makes (suc more) setting m q done n s h =
     (nat_le setting.room n) (next_call setting.digest m q None done) refl refl
 
 -- a turn in front of the rest of a run, or alone where it ends the session
-first : (b : Bool) (setting : Setting) (n number : ℕ) (s mid : State) (k : Contents) (t : Turn) (qs : List Item) (tail : Output) → (answer_of k t).ends ≡ b
+first : (b : Bool) (setting : Setting) (n number : ℕ) (s mid : State) (k : Contents) (t : Turn) (qs : List Item) (tail : Output) → (turn_answer k t).ends ≡ b
     → IsTurn setting n number s k t mid
-    → (b ≡ false → HasTurns tail setting (n + 1) (number + length t.entries) mid (contents_after t k) qs)
-    → HasTurns (in_front t.entries (answer_of k t) (if b then at_end true mid (contents_after t k) else tail)) setting n number s k (t.request ∷ qs)
+    → (b ≡ false → IsOfTurns tail setting (n + 1) (number + length t.entries) mid (contents_after t k) qs)
+    → IsOfTurns (in_front t.entries (turn_answer k t) (if b then at_end true mid (contents_after t k) else tail)) setting n number s k (t.request ∷ qs)
 first true setting n number s mid k t qs tail e is rest = record {
   turns = t ∷ [];
   rest = qs;
@@ -83,7 +83,7 @@ first true setting n number s mid k t qs tail e is rest = record {
   is = record { entries = refl; bytes = refl; new_is = refl; contents_are = refl };
 }
 first false setting n number s mid k t qs tail e is rest =
-    let r : HasTurns tail setting (n + 1) (number + length t.entries) mid (contents_after t k) qs = rest refl in
+    let r : IsOfTurns tail setting (n + 1) (number + length t.entries) mid (contents_after t k) qs = rest refl in
     record {
       turns = t ∷ r.turns;
       rest = r.rest;
@@ -94,7 +94,7 @@ first false setting n number s mid k t qs tail e is rest =
     }
 
 pub output_turns : (qs : List Item) (setting : Setting) (n number : ℕ) (s : State) (k : Contents)
-    → AllServed setting n number s k qs → HasTurns (output_of setting n number s k qs) setting n number s k qs
+    → AllServed setting n number s k qs → IsOfTurns (output_of setting n number s k qs) setting n number s k qs
 output_turns [] setting n number s k served = record {
   turns = [];
   rest = [];
@@ -107,5 +107,5 @@ output_turns (q ∷ qs) setting n number s k (here, later) =
     let made : Made = made_by setting (setting.draws n) q number s in
     let t : Turn = record { request = q; stop = None; entries = made.entries } in
     let is : IsTurn setting n number s k t made.new = record { makes = made_makes 2 setting (setting.draws n) q [] number s (omega arith); stops = tt; served = here } in
-    first (answer_of k t).ends setting n number s made.new k t qs _ refl is
+    first (turn_answer k t).ends setting n number s made.new k t qs _ refl is
     (λ e. output_turns qs setting (n + 1) (number + length made.entries) made.new (contents_after t k) (later e))

@@ -4,7 +4,7 @@ use Rattle.repo_model.specs.State.{State}
 use Rattle.http_requests.specs.Requests.{Item}
 use Rattle.http_front.specs.declared.stop.Stop.{Stop}
 use Rattle.http_front.specs.Contents.{Contents}
-use Rattle.http_front.specs.Turns.{Setting, Turn, Makes, AreTurns, contents_after, answer_of, requests_of}
+use Rattle.http_front.specs.Turns.{Setting, Turn, Makes, AreTurns, contents_after, turn_answer, requests_of}
 use Rattle.http_front.specs.Sound.{AreSound}
 use Rattle.http_front.specs.Output.{Made, made_by, Output, at_end, in_front, output_of}
 use Rattle.http_front.specs.TurnLaws.{IsOutput}
@@ -14,8 +14,8 @@ use Rattle.http_front.proofs.Made.{made_is}
 abbrev run_from : Setting → ℕ → ℕ → Contents → Item → List Item → Made → Option Stop → Output
 run_from setting n number k q qs made stop =
     let turn : Turn = record { request = q; stop = stop; entries = made.entries } in
-    in_front made.entries (answer_of k turn)
-    (if (answer_of k turn).ends then at_end true made.new (contents_after turn k)
+    in_front made.entries (turn_answer k turn)
+    (if (turn_answer k turn).ends then at_end true made.new (contents_after turn k)
     else output_of setting (n + 1) (number + length made.entries) made.new (contents_after turn k) qs)
 
 -- what stands behind a turn
@@ -33,10 +33,10 @@ unchanged (t ∷ ts) setting n number s new k l are e = (cc, cc)
 
 -- a turn in front
 pub in_front_is : (t : Turn) (ts : List Turn) (new : State) (k l : Contents) (rest : Output) → IsOutput rest (contents_after t k) ts new l
-    → IsOutput (in_front t.entries (answer_of k t) rest) k (t ∷ ts) new l
+    → IsOutput (in_front t.entries (turn_answer k t) rest) k (t ∷ ts) new l
 in_front_is t ts new k l rest is = record {
   entries = ap (λ es. t.entries ++ es) is.entries;
-  bytes = ap (λ x. (answer_of k t).bytes ++ x) is.bytes;
+  bytes = ap (λ x. (turn_answer k t).bytes ++ x) is.bytes;
   new_is = is.new_is;
   contents_are = is.contents_are;
 }
@@ -53,6 +53,6 @@ sound_output (t ∷ ts) setting n number s new k l (mid, is, end, rest) (unstopp
     ∙ ap (run_from setting n number k t.request (requests_of ts) (record { entries = t.entries; new = mid })) (sym unstopped) in
     subst (λ (o : Output). IsOutput o k (t ∷ ts) new l) (sym same)
     (in_front_is t ts new k l _
-    (tail_is ts (answer_of k t).ends mid new (contents_after t k) l _ end
+    (tail_is ts (turn_answer k t).ends mid new (contents_after t k) l _ end
     (unchanged ts setting (n + 1) (number + length t.entries) mid new (contents_after t k) l rest)
     (sound_output ts setting (n + 1) (number + length t.entries) mid new (contents_after t k) l rest sound)))

@@ -14,7 +14,7 @@ use Rattle.http_requests.specs.Requests.{Item}
 use Rattle.http_front.specs.Contents.{Contents}
 use Rattle.http_front.specs.Answers.{Answer}
 use Rattle.http_front.specs.Calls.{next_call, store_in}
-use Rattle.http_front.specs.Turns.{Setting, Turn, contents_after, answer_of}
+use Rattle.http_front.specs.Turns.{Setting, Turn, contents_after, turn_answer}
 
 -- what the repository answers. Where it doesn't answer such a call, want of memory, which changes nothing.
 abbrev pub done_by : Config → State → List ℕ → Call → Outcome
@@ -72,7 +72,7 @@ output_of setting n number state contents [] = at_end false state contents
 output_of setting n number state contents (request ∷ requests) =
     let made = made_by setting (setting.draws n) request number state in
     let turn : Turn = record { request = request; stop = None; entries = made.entries } in
-    let answer = answer_of contents turn in
+    let answer = turn_answer contents turn in
     let new = contents_after turn contents in
     in_front made.entries answer
     (if answer.ends then at_end true made.new new

@@ -12,7 +12,7 @@ use Rattle.http_requests.specs.Requests.{Item}
 use Rattle.http_front.specs.Answers.{last_reply}
 use Rattle.http_front.specs.Said.{said}
 use Rattle.http_front.specs.Served.{Serves}
-use Rattle.http_front.specs.Turns.{Setting, Turn, IsTurn, AreTurns, NoneEnds, contents_after, answer_of, requests_of, entries_of, stops_of, turns_said}
+use Rattle.http_front.specs.Turns.{Setting, Turn, IsTurn, AreTurns, NoneEnds, contents_after, turn_answer, requests_of, entries_of, stops_of, turns_said}
 use Rattle.http_front.specs.Sound.{AreSound}
 use Rattle.http_front.specs.Output.{Output, made_by, output_of}
 
@@ -52,10 +52,10 @@ AllServed setting n number state contents (request ∷ requests) =
     let turn : Turn = record { request = request; stop = None; entries = made.entries } in
     let new = contents_after turn contents in
     Serves new (last_reply turn.entries)
-    × ((answer_of contents turn).ends ≡ false → AllServed setting (n + 1) (number + length made.entries) made.new new requests)
+    × ((turn_answer contents turn).ends ≡ false → AllServed setting (n + 1) (number + length made.entries) made.new new requests)
 
 -- a run is that of turns of the first of the requests, and of all unless it ends before
-pub record HasTurns (output : Output) (setting : Setting) (n number : ℕ) (state : State) (contents : Contents) (requests : List Item) : Type 0 where
+pub record IsOfTurns (output : Output) (setting : Setting) (n number : ℕ) (state : State) (contents : Contents) (requests : List Item) : Type 0 where
   pub turns : List Turn
   pub rest : List Item
   pub parts : requests ≡ requests_of turns ++ rest
@@ -68,7 +68,7 @@ abbrev pub OutputIsTurns : Type 0
 OutputIsTurns =
     (setting : Setting) (n number : ℕ) (state : State) (contents : Contents) (requests : List Item)
     → AllServed setting n number state contents requests
-    → HasTurns (output_of setting n number state contents requests) setting n number state contents requests
+    → IsOfTurns (output_of setting n number state contents requests) setting n number state contents requests
 
 -- one more turn behind turns that don't end the session
 abbrev pub TurnsGoOn : Type 0

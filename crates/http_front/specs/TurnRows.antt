@@ -24,7 +24,7 @@ use Rattle.http_front.specs.Entries.{begins}
 use Rattle.http_front.specs.Contents.{Contents}
 use Rattle.http_front.specs.Responses.{why_refused, why_stopped}
 use Rattle.http_front.specs.Calls.{first_call, put_call}
-use Rattle.http_front.specs.Turns.{Setting, Turn, IsTurn, is_upload, AreTurns, answer_of, turns_said}
+use Rattle.http_front.specs.Turns.{Setting, Turn, IsTurn, is_upload, AreTurns, turn_answer, turns_said}
 
 -- the head of a request that doesn't close, with a content of 3 bytes
 abbrev pub asking : Method → Key → List ℕ → Head
@@ -41,7 +41,7 @@ turn_of request entries = record { request = request; stop = None; entries = ent
 -- the turn leads from state to state with the first moment and the first entry, and is answered so
 abbrev pub IsAlone : Setting → State → Contents → Turn → State → List ℕ → Bool → Type 0
 IsAlone setting state contents turn new bytes ends =
-    IsTurn setting 0 0 state contents turn new × (answer_of contents turn ≡ record { bytes = bytes; ends = ends })
+    IsTurn setting 0 0 state contents turn new × (turn_answer contents turn ≡ record { bytes = bytes; ends = ends })
 
 -- a PUT, and a GET that finds its content: three entries
 abbrev pub PutThenGet : Type 0

@@ -80,8 +80,8 @@ abbrev pub contents_after : Turn → Contents → Contents
 contents_after turn contents = with_content (last_reply turn.entries) (content_of turn.request) contents
 
 -- the answer of a turn, in front of which stand these contents
-abbrev pub answer_of : Contents → Turn → Answer
-answer_of contents turn = response_of (contents_after turn contents) turn.request turn.stop turn.entries
+abbrev pub turn_answer : Contents → Turn → Answer
+turn_answer contents turn = response_of (contents_after turn contents) turn.request turn.stop turn.entries
 
 -- A turn with the n-th moment, whose first entry has that number, leads from the state to the new one. The content that it gives
 -- out is there.
@@ -95,13 +95,13 @@ abbrev pub AreTurns : Setting → ℕ → ℕ → State → Contents → List Tu
 AreTurns setting n number state contents [] new contents' = (new ≡ state) × (contents' ≡ contents)
 AreTurns setting n number state contents (turn ∷ turns) new contents' =
     (mid : State) × IsTurn setting n number state contents turn mid
-    × (((answer_of contents turn).ends ≡ false) ⊎ (turns ≡ []))
+    × (((turn_answer contents turn).ends ≡ false) ⊎ (turns ≡ []))
     × AreTurns setting (n + 1) (number + length turn.entries) mid (contents_after turn contents) turns new contents'
 
 -- the session ends after none of the turns
 abbrev pub NoneEnds : Contents → List Turn → Type 0
 NoneEnds contents [] = Unit {0}
-NoneEnds contents (turn ∷ turns) = ((answer_of contents turn).ends ≡ false) × NoneEnds (contents_after turn contents) turns
+NoneEnds contents (turn ∷ turns) = ((turn_answer contents turn).ends ≡ false) × NoneEnds (contents_after turn contents) turns
 
 abbrev pub requests_of : List Turn → List Item
 requests_of turns = map (λ turn. turn.request) turns
@@ -116,4 +116,4 @@ stops_of turns = map (λ turn. turn.stop) turns
 -- what is said in the turns, from these contents on
 abbrev pub turns_said : Contents → List Turn → List ℕ
 turns_said contents [] = []
-turns_said contents (turn ∷ turns) = (answer_of contents turn).bytes ++ turns_said (contents_after turn contents) turns
+turns_said contents (turn ∷ turns) = (turn_answer contents turn).bytes ++ turns_said (contents_after turn contents) turns

@@ -13,7 +13,7 @@ use Rattle.http_header.proofs.HeaderMapLemmas.{get_all-append_same, get_all-appe
 use Rattle.httparse.specs.declared.spans.HeaderSpan.{HeaderSpan}
 use Rattle.httparse.specs.Spans.{header_bytes}
 use Rattle.http_heads.specs.Fields.{Pair, same_word, values_of}
-use Rattle.http_heads.specs.Kept.{values_under, Keeps}
+use Rattle.http_heads.specs.Kept.{values_under, KeepsFields}
 
 pub length-append_le : (m : Entries FieldValue) (name : List ℕ) (value : FieldValue) → length (append m name value) ≤ length m + 1
 length-append_le [] name value = omega arith
@@ -66,7 +66,7 @@ texts : List FieldValue → List (List ℕ)
 texts values = map (λ (v : FieldValue). v.bytes) values
 
 -- the map keeps one more field
-pub keeps_more : (m : Entries FieldValue) (fields : List Pair) (field : Pair) → Keeps m fields → Keeps (append m (lowercase field.0) (plain_value field.1)) (fields ++ field ∷ [])
+pub keeps_more : (m : Entries FieldValue) (fields : List Pair) (field : Pair) → KeepsFields m fields → KeepsFields (append m (lowercase field.0) (plain_value field.1)) (fields ++ field ∷ [])
 unfolding texts
 keeps_more m fields field keeps name lower =
     elim (cases_Bool (same_word field.0 name)) [
@@ -92,7 +92,7 @@ pub fields_more : (text : List ℕ) (fields : List HeaderSpan) (i : ℕ) (d : He
     → map (header_bytes text) (take (i + 1) fields) ≡ map (header_bytes text) (take i fields) ++ header_bytes text (get_or fields i d) ∷ []
 fields_more text fields i d lt = ap (λ (fs : List HeaderSpan). map (header_bytes text) fs) (take_more fields i d lt) ∙ map-append (header_bytes text) (take i fields) (get_or fields i d ∷ [])
 
-pub keeps_nothing : Keeps [] []
+pub keeps_nothing : KeepsFields [] []
 unfolding values_of
 keeps_nothing name lower = refl
 

@@ -16,7 +16,7 @@ use Rattle.http_heads.specs.declared.head_err.HeadErr.{HeadErr}
 use Rattle.http_heads.specs.declared.head_err.HeadErr.TheVariants.{HeadTooLarge, TooManyHeaders, BadHead, BadMethod, BadPath, BothFramings, BadCoding, BadLength, LengthRequired, BodyTooLarge, NoMemory}
 use Rattle.http_heads.specs.Cut.{head_limit}
 use Rattle.http_heads.specs.Fields.{Pair, Values, values_in}
-use Rattle.http_heads.specs.Kept.{values_kept, IsKeepable, Keeps}
+use Rattle.http_heads.specs.Kept.{values_kept, IsKeepable, KeepsFields}
 use Rattle.http_heads.specs.Gives.{GivesOr}
 use Rattle.http_heads.specs.Head.{IsTooLong, IsWholeHead, judge_of, GivesHead}
 use Rattle.http_heads.specs.Found.{HasAnswer}
@@ -52,7 +52,7 @@ gives_head text head (Err BodyTooLarge) whole (inr e) = (head, whole, sym e)
 gives_head text head (Err NoMemory) whole given = (head, whole)
 
 -- the values of the five names, from the map and from the fields
-pub values_same : (kept : Entries FieldValue) (fields : List Pair) → Keeps kept fields → values_kept kept ≡ values_in fields
+pub values_same : (kept : Entries FieldValue) (fields : List Pair) → KeepsFields kept fields → values_kept kept ≡ values_in fields
 values_same kept fields keeps =
     let made : List (List ℕ) → List (List ℕ) → List (List ℕ) → List (List ℕ) → List (List ℕ) → Values =
     λ a b c d e. record { lengths = a; codings = b; types = c; expectations = d; options = e } in

@@ -27,8 +27,8 @@ abbrev pub IsKeepable : Pair → Type 0
 IsKeepable field = IsFieldName field.0 × IsFieldValue field.1
 
 -- the map keeps these fields and no others, each name's values in their order
-abbrev pub Keeps : Entries FieldValue → List Pair → Type 0
-Keeps kept fields = (name : List ℕ) → map to_ascii_lowercase name ≡ name → values_under name kept ≡ values_of name fields
+abbrev pub KeepsFields : Entries FieldValue → List Pair → Type 0
+KeepsFields kept fields = (name : List ℕ) → map to_ascii_lowercase name ≡ name → values_under name kept ≡ values_of name fields
 
 -- how many values there are
 abbrev pub IsGiven : List (List ℕ) → Given → Type 0

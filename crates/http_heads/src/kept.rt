@@ -4,7 +4,7 @@ ghost use Rattle.http_header.specs.Token.{lowercase};
 ghost use Rattle.http_header.specs.FieldName.{IsFieldName};
 ghost use Rattle.http_header.specs.FieldValue.{IsFieldValue, plain_value};
 ghost use Rattle.http_header.specs.HeaderMap.{append, value_count};
-ghost use Rattle.http_heads.specs.Kept.{values_under, IsKeepable, Keeps, IsGiven};
+ghost use Rattle.http_heads.specs.Kept.{values_under, IsKeepable, KeepsFields, IsGiven};
 
 use http_header::{
     HeaderMap, HeaderMapError, HeaderName, HeaderNameError, HeaderValue, HeaderValueError,
@@ -37,7 +37,7 @@ fn value_of(alloc: Global, text: &[u8]) -> Result<HeaderValue, NoMemory>
     }
 }
 
-// Keeps one more field. There is always room for so few.
+// KeepsFields one more field. There is always room for so few.
 fn keep_one(map: &mut HeaderMap, name: HeaderName, value: HeaderValue) -> Result<(), NoMemory>
     requires names { length map.old ≤ 64 }
     requires values { value_count map.old ≤ 64 }
@@ -50,12 +50,12 @@ fn keep_one(map: &mut HeaderMap, name: HeaderName, value: HeaderValue) -> Result
     }
 }
 
-/// Keeps the fields of a head that was read.
+/// KeepsFields the fields of a head that was read.
 pub(crate) fn keep(alloc: Global, text: &[u8], fields: &[HeaderSpan]) -> Result<HeaderMap, NoMemory>
     requires within { All (IsHeaderWithin (length text.now)) fields.now }
     requires keepable { All (λ field. IsKeepable (header_bytes text.now field)) fields.now }
     requires few { length fields.now ≤ 64 }
-    ensures { IfOk result (λ kept. Keeps kept (map (header_bytes text.now) fields.now)) }
+    ensures { IfOk result (λ kept. KeepsFields kept (map (header_bytes text.now) fields.now)) }
 {
     let mut kept = HeaderMap::new(alloc);
     for field in fields {

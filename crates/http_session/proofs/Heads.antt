@@ -17,7 +17,7 @@ use Rattle.http_front.proofs.Seeks.{joined, keeps_prefix, behind, all_behind, so
 use Rattle.http_requests.specs.Heads.{Accepts, IsRefused}
 use Rattle.session_history.specs.Marks.{accepted, refused}
 use Rattle.session_history.specs.Phases.{Phase, between, asked, beginning, after, answer_at}
-use Rattle.session_history.specs.Histories.{IsTextOf, Rests, IsHistory}
+use Rattle.session_history.specs.Histories.{IsTextOf, HasNoNext, IsHistory}
 use Rattle.http_session.specs.declared.place.Place.{Place}
 use Rattle.http_session.specs.declared.place.Place.TheVariants as places
 use Rattle.http_session.specs.Views.{SessionView, place_of}
@@ -122,6 +122,6 @@ head_waits s fed past is none still look t =
         rest = t.part ++ s.held;
         parts = x.parts;
         spans = t.spans;
-        rests = subst (λ (p : Phase). Rests p (t.part ++ s.held) past.came) (sym x.phase) (some_request (t.part ++ s.held) s.held (x.blank s.held ∙ still) look.0 look.1, x.none);
+        rests = subst (λ (p : Phase). HasNoNext p (t.part ++ s.held) past.came) (sym x.phase) (some_request (t.part ++ s.held) s.held (x.blank s.held ∙ still) look.0 look.1, x.none);
       },
     )

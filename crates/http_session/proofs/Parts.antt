@@ -10,7 +10,7 @@ use Rattle.http_requests.specs.Bodies.{HoldsBody}
 use Rattle.http_requests.specs.Requests.{stop_of}
 use Rattle.session_history.specs.Marks.{content, spoiled}
 use Rattle.session_history.specs.Phases.{Phase, inside, after, answer_at}
-use Rattle.session_history.specs.Histories.{IsTextOf, Rests, IsHistory}
+use Rattle.session_history.specs.Histories.{IsTextOf, HasNoNext, IsHistory}
 use Rattle.http_session.specs.declared.body.Body.{Body}
 use Rattle.http_session.specs.declared.place.Place.{Place}
 use Rattle.http_session.specs.declared.place.Place.TheVariants as places
@@ -132,6 +132,6 @@ content_waits s fed past body closes is none reads t =
         rest = t.part ++ s.held;
         parts = x.parts;
         spans = t.spans;
-        rests = subst (λ (p : Phase). Rests p (t.part ++ s.held) past.came) (sym x.phase) (reads x.head.framing t.part past.came x.reading);
+        rests = subst (λ (p : Phase). HasNoNext p (t.part ++ s.held) past.came) (sym x.phase) (reads x.head.framing t.part past.came x.reading);
       },
     )

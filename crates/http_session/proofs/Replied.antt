@@ -12,14 +12,15 @@ use Rattle.http_front.specs.Asking.{is_head, is_empty}
 use Rattle.http_front.specs.Contents.{asset_content}
 use Rattle.http_front.specs.Responses.{replied_with}
 use Rattle.session_history.specs.Marks.{replied, failed, broke}
-use Rattle.session_history.specs.Phases.{Phase, asked, beginning, inside, putting, over, is_begun, behind, go_on, after, answer_at}
+use Rattle.http_front.specs.Entries.{is_begun}
+use Rattle.session_history.specs.Phases.{Phase, asked, beginning, inside, putting, over, behind, go_on, after, answer_at}
 use Rattle.session_history.specs.Histories.{IsTextOf}
 use Rattle.session_history.specs.Saying.{why_upload}
 use Rattle.http_session.specs.declared.body.Body.{Body}
 use Rattle.http_session.specs.declared.place.Place.{Place}
 use Rattle.http_session.specs.declared.place.Place.TheVariants as places
 use Rattle.http_session.specs.Bodies.{IsReading}
-use Rattle.http_session.specs.Views.{SessionView, place_behind, continued}
+use Rattle.http_session.specs.Views.{SessionView, place_behind, continue_if}
 use Rattle.http_session.specs.Taken.{Past, phase_of, with_mark, StandsAt, Took, awaits}
 use Rattle.http_session.proofs.Marked.{no_parts, answer_took, advance}
 use Rattle.http_session.proofs.Places.{at_asked, at_beginning, at_inside, at_putting, nothing_taken}
@@ -74,15 +75,15 @@ begun_answer head r b e = ap (λ (c : Bool). cond c (go_on head) (begin_refused 
 
 pub begun : (s : SessionView) (fed : List ℕ) (past : Past) (framing : Framing) (expects closes : Bool) (body : Body) (r : Reply) → s.place ≡ places.Beginning framing expects closes → s.out ≡ []
     → is_begun r ≡ true → IsReading framing body [] [] → Took s fed past
-    → Took (record s { place = places.Inside body closes; out = continued expects }) fed (with_mark (replied r) past)
+    → Took (record s { place = places.Inside body closes; out = continue_if expects }) fed (with_mark (replied r) past)
 begun s fed past framing expects closes body r is quiet has reading t =
     let x = at_beginning (phase_of past) framing expects closes (t.part ++ s.borrowed) (past.came ++ s.borrowed) (subst (λ (p : Place). StandsAt (phase_of past) p (t.part ++ s.borrowed) (past.came ++ s.borrowed)) is t.stands) in
     let none = no_parts t.part s.borrowed x.5 in
-    let new : SessionView = record s { place = places.Inside body closes; out = continued expects } in
+    let new : SessionView = record s { place = places.Inside body closes; out = continue_if expects } in
     let stands : StandsAt (inside x.0) (places.Inside body closes) s.borrowed s.borrowed =
     (body, ap (λ (b : Bool). places.Inside body b) x.4, subst (λ (l : List ℕ). IsReading x.0.framing body l l) (sym none.1) (subst (λ (f : Framing). IsReading f body [] []) x.2 reading)) in
     answer_took s new fed past (replied r) t (subst (λ (p : Phase). IsTextOf p (replied r) []) (sym x.1) refl) none.0 quiet
-    (subst (λ (p : Phase). continued expects ≡ (answer_at p (replied r)).bytes) (sym x.1) (ap continued x.3 ∙ sym (ap (λ (a : Answer). a.bytes) (begun_answer x.0 r true has))))
+    (subst (λ (p : Phase). continue_if expects ≡ (answer_at p (replied r)).bytes) (sym x.1) (ap continue_if x.3 ∙ sym (ap (λ (a : Answer). a.bytes) (begun_answer x.0 r true has))))
     refl refl refl
     (subst (λ (p : Phase). StandsAt (after p (replied r)) (places.Inside body closes) s.borrowed s.borrowed) (sym x.1)
     (subst (λ (p : Phase). StandsAt p (places.Inside body closes) s.borrowed s.borrowed) (sym (begun_phase x.0 r true has)) stands))

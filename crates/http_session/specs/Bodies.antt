@@ -3,7 +3,7 @@ use Rattle.std.specs.Prelude.{◌≡◌, ℕ, ◌+◌, ◌<◌, ◌≤◌, List,
 use Rattle.http_heads.specs.declared.framing.Framing.{Framing}
 use Rattle.http_heads.specs.declared.framing.Framing.TheVariants as framings
 use Rattle.http_chunks.specs.Reading as readings
-use Rattle.http_chunks.specs.Steps.{Took}
+use Rattle.http_chunks.specs.Steps.{TookText}
 use Rattle.http_requests.specs.Bodies.{HoldsBody}
 use Rattle.http_requests.specs.Requests.{stop_of}
 use Rattle.http_session.specs.declared.body.Body.{Body}
@@ -15,7 +15,7 @@ use Rattle.http_session.specs.declared.body.BodyStep.TheVariants as steps
 abbrev pub IsReading : Framing → Body → List ℕ → List ℕ → Type 0
 IsReading framings.None (bodies.Sized left) part came = (part ≡ came) × (length came + left ≡ 0)
 IsReading (framings.Length n) (bodies.Sized left) part came = (part ≡ came) × (length came + left ≡ n)
-IsReading framings.Chunked (bodies.Chunked chunks) part came = Took chunks part came
+IsReading framings.Chunked (bodies.Chunked chunks) part came = TookText chunks part came
 IsReading framing body part came = ⊥
 
 -- what a step says of the bytes behind a part, and where the reader then stands

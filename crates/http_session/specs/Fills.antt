@@ -18,7 +18,7 @@ pub record Came (left left' : Option (List ℕ)) (old new : SessionView) : Type 
   pub took : (fed : List ℕ) (past : Past) → Took old fed past → Took new (fed ++ bytes) past
 
 -- the input ended
-pub record Ends (left left' : Option (List ℕ)) (ended : Bool) (old new : SessionView) : Type 0 where
+pub record InputEnds (left left' : Option (List ℕ)) (ended : Bool) (old new : SessionView) : Type 0 where
   pub consumed : Consumes left left' []
   pub at_end : IsAtEnd left'
   pub told : ended ≡ true
@@ -37,7 +37,7 @@ pub record IsOver (left left' : Option (List ℕ)) (old new : SessionView) : Typ
 -- bytes came, the input ended, or it is longer; where the source failed nothing has changed
 abbrev pub Fills : Option (List ℕ) → Option (List ℕ) → Bool → SessionView → SessionView → Result Filled Failed → Type 0
 Fills left left' ended old new (Ok filled.Bytes) = Came left left' old new
-Fills left left' ended old new (Ok filled.Ended) = Ends left left' ended old new
+Fills left left' ended old new (Ok filled.Ended) = InputEnds left left' ended old new
 Fills left left' ended old new (Ok filled.Longer) = IsOver left left' old new
 Fills left left' ended old new (Err why) = Consumes left left' [] × (new ≡ old)
 

@@ -25,7 +25,7 @@ IsBorrowed (failed why) came = came ≡ []
 IsBorrowed (broke why) came = Unit {0}
 
 -- what was asked is asked at the mark that came
-pub record Asks (fed : List ℕ) (past : Past) (new : SessionView) (ask : Ask) : Type 0 where
+pub record AsksAt (fed : List ℕ) (past : Past) (new : SessionView) (ask : Ask) : Type 0 where
   pub mark : Mark
   pub asked : ask_at (phase_of past) mark ≡ Some ask
   pub borrowed : IsBorrowed mark past.came
@@ -40,8 +40,8 @@ pub record IsStill (fed : List ℕ) (past : Past) (new : SessionView) : Type 0 w
   pub taken : new.borrowed ≡ []
 
 -- there is something to say: at a head that is refused now, or as before
-abbrev pub Says : List ℕ → Past → SessionView → Type 0
-Says fed past new =
+abbrev pub HasToSay : List ℕ → Past → SessionView → Type 0
+HasToSay fed past new =
     (0 < length new.out)
     × (Took new fed past ⊎ ((why : HeadErr) × (bare : Bool) × (phase_of past ≡ between) × Took new fed (with_mark (refused why bare) past)))
 
@@ -49,10 +49,10 @@ Says fed past new =
 abbrev pub Gives : List ℕ → Past → SessionView → Step → Type 0
 -- there is room for more
 Gives fed past new steps.Need = IsStill fed past new × (new.ended ≡ false) × (new.longer ≡ false) × (waiting new < 32768)
-Gives fed past new (steps.Ask ask) = Asks fed past new ask
+Gives fed past new (steps.Ask ask) = AsksAt fed past new ask
 -- a content is handed on where nothing is left to say: behind `100 Continue`, where the request waits for that
 Gives fed past new (steps.Body n) = Took new fed past × (is_inside (phase_of past) ≡ true) × (0 < n) × (n ≡ length new.borrowed) × (new.out ≡ [])
-Gives fed past new steps.Say = Says fed past new
+Gives fed past new steps.Say = HasToSay fed past new
 -- the input ended between requests
 Gives fed past new (steps.Done ends.Clean) = IsStill fed past new × (new.ended ≡ true) × (phase_of past ≡ between) × (new.held ≡ [])
 -- the input ended inside a content, or inside a head

@@ -78,8 +78,8 @@ abbrev pub place_behind : Bool → Place
 place_behind ends = if ends then places.Over else places.Between
 
 -- what is said to an upload that was begun
-abbrev pub continued : Bool → List ℕ
-continued expects = if expects then continue else []
+abbrev pub continue_if : Bool → List ℕ
+continue_if expects = if expects then continue else []
 
 -- whether it has ended
 abbrev pub is_over_at : Place → Bool

@@ -9,7 +9,7 @@ ghost use Rattle.session_history.specs.Saying.{why_upload};
 ghost use Rattle.http_session.specs.declared.body.Body.{Body};
 ghost use Rattle.http_session.specs.declared.place.Place.TheVariants as places;
 ghost use Rattle.http_session.specs.Bodies.{IsReading};
-ghost use Rattle.http_session.specs.Views.{awaits_at, takes_failure, place_behind, continued, KeepsInput, KeepsCount};
+ghost use Rattle.http_session.specs.Views.{awaits_at, takes_failure, place_behind, continue_if, KeepsInput, KeepsCount};
 ghost use Rattle.http_session.specs.Taken.{Past, Took, phase_of, with_mark, awaits, is_inside};
 
 use crate::body::Body;
@@ -48,7 +48,7 @@ impl Session {
 
     /// An upload was begun: its content comes next.
     fn go_on(&mut self, framing: Framing, expects: bool, closes: bool)
-        ensures { (body : Body) × IsReading framing body [] [] × (self.new ≡ record self.old { place = places.Inside body closes; out = continued expects }) }
+        ensures { (body : Body) × IsReading framing body [] [] × (self.new ≡ record self.old { place = places.Inside body closes; out = continue_if expects }) }
     {
         self.out_len = write_continue(expects, &mut self.out);
         self.place = Place::Inside {

@@ -3,7 +3,7 @@ ghost use Rattle.std.specs.Prelude.{◌≡◌, ◌≤◌, [], take, length};
 ghost use Rattle.http_heads.specs.Response.{why, refused_with};
 ghost use Rattle.http_front.specs.Responses.{replied_with};
 ghost use Rattle.session_history.specs.Saying.{why_upload};
-ghost use Rattle.http_session.specs.Views.{continued};
+ghost use Rattle.http_session.specs.Views.{continue_if};
 
 use http_front::answer_of;
 use http_heads::{RefusalWords, refusal_response, response_head};
@@ -46,7 +46,7 @@ pub(crate) fn upload_answer(refusal: UploadErr) -> (u16, RefusalWords)
 /// Writes `100 Continue`, where the request waits for it.
 pub(crate) fn write_continue(expects: bool, out: &mut [u8; 1024]) -> usize
     ensures within { result ≤ 1024 }
-    ensures text { take result out.new ≡ continued expects }
+    ensures text { take result out.new ≡ continue_if expects }
 {
     if expects {
         response_head(100, None, None, false, out)

@@ -8,7 +8,7 @@ use Rattle.http_front.specs.Chains.{Replying, Chain, ChainsPast}
 use Rattle.http_front.specs.Sessions.{ChainFails}
 use Rattle.http_front.specs.Turns.{Turn, entries_of, requests_of}
 use Rattle.repo_core.specs.View.{CoreView}
-use Rattle.repo_session.specs.Answering.{SessionView, Answered}
+use Rattle.repo_session.specs.Answering.{AnsweringView, Answered}
 use Rattle.repo_core.specs.Devices.{Devices}
 use Rattle.repo_session.specs.Drawing.{HasDrawn}
 use Rattle.repo_session.specs.Resting.{Rests}
@@ -22,7 +22,7 @@ none_made : (turns : List Turn) → requests_of turns ≡ [] → turns ≡ []
 none_made [] e = refl
 none_made (turn ∷ turns) e = absurd (omega (arith, ap length e))
 
-module _ {A D T W R : Type 0} (devices : Devices D T) (view : A → SessionView D T W R) where
+module _ {A D T W R : Type 0} (devices : Devices D T) (view : A → AnsweringView D T W R) where
   -- a request is answered as the session is seen
   abbrev Says : Replying A
   Says = λ x y item answer. Answered devices (view x) (view y) item answer

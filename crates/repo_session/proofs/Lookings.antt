@@ -52,7 +52,7 @@ use Rattle.repo_session.specs.Resting.{Rests}
 use Rattle.repo_session.specs.Holding.{GivesContent, GivesHeld}
 use Rattle.repo_session.specs.Giving.{IsGiven, IsGivenBehind, HasGivenCause}
 use Rattle.repo_session.specs.Sending.{Sent, SentSome, OnlyWriteFails}
-use Rattle.repo_session.specs.Answering.{SessionView, Answered, IsFree}
+use Rattle.repo_session.specs.Answering.{AnsweringView, Answered, IsFree}
 use Rattle.repo_session.specs.Looked.{IsLooked, Opens, ShowsHeld, opened_by}
 use Rattle.repo_session.specs.Turned.{DownloadFails}
 use Rattle.repo_session.proofs.Sendings.{answered, answered_by_sink}
@@ -149,7 +149,7 @@ called_behind {D} {T} devices old mid new c store said after rests called = reco
     table = ap (λ (v : CoreView D T). v.table) rests.same
 
 -- A look of a session, behind which open is what it found.
-pub looked_up : {D T W R : Type 0} (devices : Devices D T) (left : R → List ℕ) (start new : SessionView D T W R) (mid : CoreView D T) (head : Head) (key : Key) (kind : Look) (moment : Moment)
+pub looked_up : {D T W R : Type 0} (devices : Devices D T) (left : R → List ℕ) (start new : AnsweringView D T W R) (mid : CoreView D T) (head : Head) (key : Key) (kind : Look) (moment : Moment)
     (result : Result (GotOf (Download R)) Refusal) (said : Reply)
     → ask_of head head.method ≡ asks.Look key kind → Drew start.draws new.draws moment → Rests devices start.core mid
     → Called devices mid new.core (call.Get key kind moment remote.NotAsked) [] (reply_of found_in result) (λ contents. contents)
@@ -229,7 +229,7 @@ open_is_whole left contents look.Get None download said found opens shows = absu
 open_is_whole left contents look.Head (Some one) download said found opens shows = absurd opens
 open_is_whole left contents look.Head None download said found opens shows = absurd (cc)
 
-module _ {D T W R : Type 0} (devices : Devices D T) (told : Type 0) (left : R → List ℕ) (start now new : SessionView D T W R) (head : Head) (said : Reply) (prefix : List ℕ)
+module _ {D T W R : Type 0} (devices : Devices D T) (told : Type 0) (left : R → List ℕ) (start now new : AnsweringView D T W R) (head : Head) (said : Reply) (prefix : List ℕ)
     (tells : devices.told → told) (looked : IsLooked devices left start now head said) (prefix_is : prefix ≡ (reply_to [] head said).bytes) (draws : new.draws ≡ now.draws) (rests : Rests devices now.core new.core) where
   abbrev Is : List ℕ → Type 0
   Is bytes = Answered devices start new (whole head []) (record { bytes = bytes; ends = head.closes })

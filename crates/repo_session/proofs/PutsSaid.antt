@@ -7,7 +7,7 @@ use Rattle.http_heads.specs.declared.head.Head.{Head}
 use Rattle.http_heads.specs.Head.{is_put}
 use Rattle.http_heads.specs.Response.{refused_with}
 use Rattle.http_requests.specs.Requests.{whole}
-use Rattle.http_front.specs.Answers.{Answer, behind, reply_to, last_reply}
+use Rattle.http_front.specs.Answers.{Answer, preceded, reply_to, last_reply}
 use Rattle.http_front.specs.Contents.{Contents}
 use Rattle.http_front.specs.Responses.{why_refused}
 use Rattle.http_front.specs.Turns.{Turn, contents_after}
@@ -43,6 +43,6 @@ turned_put devices start new moment head content result said put answers is = re
   says = λ told tells state contents stands.
       let turn : Turn = record { request = whole head content; stop = None; entries = is.entries } in
       let says = answer_put (contents_after turn contents) head content is.entries put is.begun
-      ∙ ap (behind (before_content head)) (reply_to_put (contents_after turn contents) head result (last_reply is.entries) said put is.said answers) in
+      ∙ ap (preceded (before_content head)) (reply_to_put (contents_after turn contents) head result (last_reply is.entries) said put is.said answers) in
       record { bytes_are = ap (λ (a : Answer). a.bytes) (sym says); ends_are = ap (λ (a : Answer). a.ends) (sym says) };
 }

@@ -21,7 +21,7 @@ use Rattle.repo_session.specs.declared.draws.Draws.{Draws}
 use Rattle.repo_session.specs.declared.open_upload.OpenUpload.{OpenUpload}
 use Rattle.repo_core.specs.Devices.{Devices}
 use Rattle.repo_session.specs.Drawing.{Drew}
-use Rattle.repo_session.specs.Answering.{SessionView, Answered, IsBegun, TurnedTo, UploadWaits}
+use Rattle.repo_session.specs.Answering.{AnsweringView, Answered, IsBegun, TurnedTo, UploadWaits}
 
 pub drew : (old new : Draws) (moment : Moment) → slice_get old.moments.items old.next ≡ Some moment → new.moments.items ≡ old.moments.items
     → new.next ≡ min (old.next + 1) (length old.moments.items - 1) → Drew old new moment
@@ -63,16 +63,16 @@ head_refused devices core moment why bare = record {
     some_is_none e = absurd (cc)
 
 -- a turn from a session's core on, by the moment that the session drew
-pub answered : {D T W R : Type 0} (devices : Devices D T) (start new : SessionView D T W R) (item : Item) (answer : Answer) (moment : Moment)
+pub answered : {D T W R : Type 0} (devices : Devices D T) (start new : AnsweringView D T W R) (item : Item) (answer : Answer) (moment : Moment)
     → Drew start.draws new.draws moment → TurnedTo devices start.core new.core moment item answer → Answered devices start new item answer
 answered devices start new item answer moment drawn turned = record { moment = moment; drawn = drawn; turned = turned }
 
-pub each_answered : {D T W R : Type 0} (devices : Devices D T) (start new : SessionView D T W R) (head : Head) (answer : Answer) (moment : Moment)
+pub each_answered : {D T W R : Type 0} (devices : Devices D T) (start new : AnsweringView D T W R) (head : Head) (answer : Answer) (moment : Moment)
     → Drew start.draws new.draws moment → AnswersEach (TurnedTo devices start.core new.core moment) head answer → AnswersEach (Answered devices start new) head answer
 each_answered devices start new head answer moment drawn turned item of = answered devices start new item answer moment drawn (turned item of)
 
 -- the same of an upload that came whole
-pub puts_answered : {D T W R : Type 0} (devices : Devices D T) (start new : SessionView D T W R) (head : Head) (item : Item) (moment : Moment) (result : Result Reply UploadErr)
+pub puts_answered : {D T W R : Type 0} (devices : Devices D T) (start new : AnsweringView D T W R) (head : Head) (item : Item) (moment : Moment) (result : Result Reply UploadErr)
     → Drew start.draws new.draws moment → PutsAs (TurnedTo devices start.core new.core moment item) head result → PutsAs (Answered devices start new item) head result
 puts_answered devices start new head item moment (Ok said) drawn turned = answered devices start new item _ moment drawn turned
 puts_answered devices start new head item moment (Err why) drawn turned = answered devices start new item _ moment drawn turned
@@ -82,7 +82,7 @@ pub kept_view : {W : Type 0} (kept : Option (OpenUpload W)) (one : OpenUpload W)
 kept_view {W} kept one is = ap (option_map (λ (o : OpenUpload W). o.upload)) is
 
 -- The upload that was kept is the one that waits.
-pub kept_upload : {D T W R : Type 0} (devices : Devices D T) (told : Type 0) (written : W → List ℕ) (start now : SessionView D T W R) (head : Head) (content : List ℕ) (upload : Upload W)
+pub kept_upload : {D T W R : Type 0} (devices : Devices D T) (told : Type 0) (written : W → List ℕ) (start now : AnsweringView D T W R) (head : Head) (content : List ℕ) (upload : Upload W)
     → (w : UploadWaits devices told written start now head content) → now.upload ≡ Some upload → IsBegun devices told written start.core now.core head upload content
 kept_upload {D} {T} {W} {R} devices told written start now head content upload w is =
     subst (λ (u : Upload W). IsBegun devices told written start.core now.core head u content) (same _ _ (sym w.kept ∙ is)) w.begun
@@ -91,7 +91,7 @@ kept_upload {D} {T} {W} {R} devices told written start now head content upload w
     same a b e = cc
 
 -- what was drawn while an upload waited was drawn since it began
-pub drew_since : {D T W R : Type 0} (devices : Devices D T) (told : Type 0) (written : W → List ℕ) (start now : SessionView D T W R) (draws : Draws) (head : Head) (content : List ℕ) (moment : Moment)
+pub drew_since : {D T W R : Type 0} (devices : Devices D T) (told : Type 0) (written : W → List ℕ) (start now : AnsweringView D T W R) (draws : Draws) (head : Head) (content : List ℕ) (moment : Moment)
     → UploadWaits devices told written start now head content → Drew now.draws draws moment → Drew start.draws draws moment
 drew_since devices told written start now draws head content moment w drawn = subst (λ (d : Draws). Drew d draws moment) w.draws drawn
 

@@ -18,7 +18,7 @@ use Rattle.http_front.specs.declared.stop.Stop.{Stop}
 use Rattle.http_front.specs.Asking.{is_head, IsOf}
 use Rattle.http_front.specs.Contents.{Contents}
 use Rattle.http_front.specs.Responses.{why_stopped}
-use Rattle.http_front.specs.Answers.{behind, last_refusal, last_reply, first_reply, has_begun, reply_to, begin_refused, continued, silence, response_of}
+use Rattle.http_front.specs.Answers.{preceded, last_refusal, last_reply, first_reply, has_begun, reply_to, begin_refused, continued, silence, response_of}
 use Rattle.repo_session.specs.Leads.{IsEntryOf}
 use Rattle.repo_session.specs.Uploading.{before_content}
 use Rattle.repo_session.proofs.Makings.{said_to}
@@ -28,7 +28,7 @@ pub last_of_one : (room number : ℕ) (c : Call) (said : Reply) (entries : List 
 last_of_one room number c said entries e (inl (fits, is)) = ap last_reply is ∙ rw e refl
 last_of_one room number c said entries e (inr (at_end, is, says)) = ap last_reply is ∙ sym says
 
--- the same behind the beginning of an upload
+-- the same preceded the beginning of an upload
 pub last_of_two : (room number : ℕ) (b : Begin) (store : List ℕ) (c : Call) (said : Reply) (entries : List Entry) → is_begin c ≡ false → IsEntryOf room number c said entries
     → last_reply (said_to (call.Begin b) (reply.Begun store) ∷ entries) ≡ said
 last_of_two room number b store c said entries e (inl (fits, is)) = ap (λ (l : List Entry). last_reply (said_to (call.Begin b) (reply.Begun store) ∷ l)) is ∙ rw e refl
@@ -64,24 +64,24 @@ said_before_content head entries e h = rw (e, h) refl
 
 -- of an upload that was stopped, whatever its content is
 pub answer_stop : (contents : Contents) (head : Head) (item : Item) (stop : Stop) (entries : List Entry) → IsOf head item → is_put head.method ≡ true → has_begun entries ≡ true
-    → response_of contents item (Some stop) entries ≡ behind (before_content head) (last_refusal false (why_stopped stop))
+    → response_of contents item (Some stop) entries ≡ preceded (before_content head) (last_refusal false (why_stopped stop))
 unfolding response_of
 answer_stop contents head (refused why bare) stop entries of e h = absurd of
 answer_stop contents head (whole asked content) stop entries of e h =
-    ap (λ (x : Head). behind (continued x entries) (last_refusal (is_head x.method) (why_stopped stop))) of
-    ∙ ap (λ (b : Bool). behind (continued head entries) (last_refusal b (why_stopped stop))) (put_is_no_head head.method e)
-    ∙ ap (λ (l : List ℕ). behind l (last_refusal false (why_stopped stop))) (said_before_content head entries e h)
+    ap (λ (x : Head). preceded (continued x entries) (last_refusal (is_head x.method) (why_stopped stop))) of
+    ∙ ap (λ (b : Bool). preceded (continued head entries) (last_refusal b (why_stopped stop))) (put_is_no_head head.method e)
+    ∙ ap (λ (l : List ℕ). preceded l (last_refusal false (why_stopped stop))) (said_before_content head entries e h)
 answer_stop contents head (stopped asked content why) stop entries of e h =
-    ap (λ (x : Head). behind (continued x entries) (last_refusal (is_head x.method) (why_stopped stop))) of
-    ∙ ap (λ (b : Bool). behind (continued head entries) (last_refusal b (why_stopped stop))) (put_is_no_head head.method e)
-    ∙ ap (λ (l : List ℕ). behind l (last_refusal false (why_stopped stop))) (said_before_content head entries e h)
+    ap (λ (x : Head). preceded (continued x entries) (last_refusal (is_head x.method) (why_stopped stop))) of
+    ∙ ap (λ (b : Bool). preceded (continued head entries) (last_refusal b (why_stopped stop))) (put_is_no_head head.method e)
+    ∙ ap (λ (l : List ℕ). preceded l (last_refusal false (why_stopped stop))) (said_before_content head entries e h)
 answer_stop contents head (cut asked content) stop entries of e h =
-    ap (λ (x : Head). behind (continued x entries) (last_refusal (is_head x.method) (why_stopped stop))) of
-    ∙ ap (λ (b : Bool). behind (continued head entries) (last_refusal b (why_stopped stop))) (put_is_no_head head.method e)
-    ∙ ap (λ (l : List ℕ). behind l (last_refusal false (why_stopped stop))) (said_before_content head entries e h)
+    ap (λ (x : Head). preceded (continued x entries) (last_refusal (is_head x.method) (why_stopped stop))) of
+    ∙ ap (λ (b : Bool). preceded (continued head entries) (last_refusal b (why_stopped stop))) (put_is_no_head head.method e)
+    ∙ ap (λ (l : List ℕ). preceded l (last_refusal false (why_stopped stop))) (said_before_content head entries e h)
 
 nothing_before : (asked head : Head) (stop : Stop) → asked ≡ head → is_put head.method ≡ true
-    → behind (continued asked []) (last_refusal (is_head asked.method) (why_stopped stop)) ≡ last_refusal false (why_stopped stop)
+    → preceded (continued asked []) (last_refusal (is_head asked.method) (why_stopped stop)) ≡ last_refusal false (why_stopped stop)
 nothing_before asked head stop of e =
     let p : is_put asked.method ≡ true = ap (λ (x : Head). is_put x.method) of ∙ e in
     rw (p, put_is_no_head asked.method p) refl
@@ -97,18 +97,18 @@ answer_stop_first contents head (cut asked content) stop of e = nothing_before a
 
 -- of one whose content was refused
 pub answer_stopped : (contents : Contents) (head : Head) (content : List ℕ) (why : BodyErr) (entries : List Entry) → is_put head.method ≡ true → has_begun entries ≡ true
-    → response_of contents (stopped head content why) None entries ≡ behind (before_content head) (last_refusal false (why_body why))
+    → response_of contents (stopped head content why) None entries ≡ preceded (before_content head) (last_refusal false (why_body why))
 unfolding response_of
 answer_stopped contents head content why entries e h = rw (h, e, put_is_no_head head.method e) refl
 
 -- of one that was cut
 pub answer_cut : (contents : Contents) (head : Head) (content : List ℕ) (entries : List Entry) → is_put head.method ≡ true → has_begun entries ≡ true
-    → response_of contents (cut head content) None entries ≡ behind (before_content head) silence
+    → response_of contents (cut head content) None entries ≡ preceded (before_content head) silence
 unfolding response_of
 answer_cut contents head content entries e h = rw (h, e) refl
 
 -- of one that came whole
 pub answer_put : (contents : Contents) (head : Head) (content : List ℕ) (entries : List Entry) → is_put head.method ≡ true → has_begun entries ≡ true
-    → response_of contents (whole head content) None entries ≡ behind (before_content head) (reply_to contents head (last_reply entries))
+    → response_of contents (whole head content) None entries ≡ preceded (before_content head) (reply_to contents head (last_reply entries))
 unfolding response_of
 answer_put contents head content entries e h = rw (e, h) refl

@@ -8,7 +8,7 @@ use Rattle.repo_model.specs.Journal.{JournalView}
 use Rattle.repo_model.specs.Plain.{config_of}
 use Rattle.repo_model.specs.State.{State}
 use Rattle.http_front.specs.Contents.{Contents}
-use Rattle.http_front.specs.Turns.{Setting, Turn, Makes, AreTurns, contents_after, answer_of, entries_of}
+use Rattle.http_front.specs.Turns.{Setting, Turn, Makes, AreTurns, contents_after, turn_answer, entries_of}
 use Rattle.repo_core.specs.View.{CoreView}
 use Rattle.repo_core.specs.Devices.{Devices}
 use Rattle.repo_session.specs.Standing.{Stands}
@@ -58,7 +58,7 @@ runs_none devices core over moments n = record {
 }
 
 -- the last of several turns is that of those behind the first
-last_of_more : (over ends : Bool) (contents : Contents) (turn : Turn) (turns : List Turn) → ends ≡ (answer_of contents turn).ends → (turns ≡ [] → ends ≡ over)
+last_of_more : (over ends : Bool) (contents : Contents) (turn : Turn) (turns : List Turn) → ends ≡ (turn_answer contents turn).ends → (turns ≡ [] → ends ≡ over)
     → LastEnds over (contents_after turn contents) turns → LastEnds over contents (turn ∷ turns)
 last_of_more over ends contents turn [] are last behind = sym are ∙ last refl
 last_of_more over ends contents turn (next ∷ turns) are last behind = behind
@@ -66,7 +66,7 @@ last_of_more over ends contents turn (next ∷ turns) are last behind = behind
 -- One turn, and those behind it. The session ends behind the first only where it is the last.
 pub runs_more : {D T : Type 0} (devices : Devices D T) (old mid new : CoreView D T) (ends over : Bool) (moments : List Moment) (n : ℕ) (moment : Moment) (turn : Turn) (turns : List Turn) (answer rest : List ℕ)
     → moment ≡ draw_of moments n → TurnMade devices old mid moment turn
-    → (devices.told → IsSome (devices.table mid.table) → (state : State) (contents : Contents) → Stands devices old state contents → IsAnswer (answer_of contents turn) answer ends)
+    → (devices.told → IsSome (devices.table mid.table) → (state : State) (contents : Contents) → Stands devices old state contents → IsAnswer (turn_answer contents turn) answer ends)
     → (ends ≡ false) ⊎ (turns ≡ []) → (turns ≡ [] → ends ≡ over) → RunsFrom devices mid new over moments (n + 1) turns rest
     → RunsFrom devices old new over moments n (turn ∷ turns) (answer ++ rest)
 runs_more {D} {T} devices old mid new ends over moments n moment turn turns answer rest drawn made says goes last runs = record {
@@ -89,7 +89,7 @@ runs_more {D} {T} devices old mid new ends over moments n moment turn turns answ
     setting : setting_of mid (draw_of moments) ≡ setting_of old (draw_of moments)
     setting = λ i. record (setting_of old (draw_of moments)) { config = config_of (made.since.config i); room = (made.since.journal i).room }
 
-    goes_on : (contents : Contents) → ends ≡ (answer_of contents turn).ends → (ends ≡ false) ⊎ (turns ≡ []) → ((answer_of contents turn).ends ≡ false) ⊎ (turns ≡ [])
+    goes_on : (contents : Contents) → ends ≡ (turn_answer contents turn).ends → (ends ≡ false) ⊎ (turns ≡ []) → ((turn_answer contents turn).ends ≡ false) ⊎ (turns ≡ [])
     goes_on contents are (inl not) = inl (sym are ∙ not)
     goes_on contents are (inr none) = inr none
 
@@ -99,7 +99,7 @@ runs_more {D} {T} devices old mid new ends over moments n moment turn turns answ
         let tells : IsSome (devices.table mid.table) = runs.since.tells is in
         let one : TurnLeads devices old mid moment turn (draw_of moments) state contents = made.leads told tells (draw_of moments) state contents stands in
         let two : TurnsLead devices mid new over moments (n + 1) turns rest one.next (contents_after turn contents) = runs.leads told is one.next (contents_after turn contents) one.stands in
-        let said : IsAnswer (answer_of contents turn) answer ends = says told tells state contents stands in
+        let said : IsAnswer (turn_answer contents turn) answer ends = says told tells state contents stands in
         let makes : Makes (setting_of old (draw_of moments)) (draw_of moments n) turn.request turn.stop [] (length old.journal.entries) state turn.entries one.next
         = subst (λ (m : Moment). Makes (setting_of old (draw_of moments)) m turn.request turn.stop [] (length old.journal.entries) state turn.entries one.next) drawn one.makes in
         let behind : AreTurns (setting_of old (draw_of moments)) (n + 1) (length old.journal.entries + length turn.entries) one.next (contents_after turn contents) turns two.next two.after
@@ -110,6 +110,6 @@ runs_more {D} {T} devices old mid new ends over moments n moment turn turns answ
           after = two.after;
           are = (one.next, record { makes = makes; stops = made.stops; served = one.served }, goes_on contents said.ends_are goes, behind);
           stands = two.stands;
-          said = ap (λ (l : List ℕ). l ++ rest) said.bytes_are ∙ ap (λ (l : List ℕ). (answer_of contents turn).bytes ++ l) two.said;
+          said = ap (λ (l : List ℕ). l ++ rest) said.bytes_are ∙ ap (λ (l : List ℕ). (turn_answer contents turn).bytes ++ l) two.said;
           ends = last_of_more over ends contents turn turns said.ends_are last two.ends;
         }

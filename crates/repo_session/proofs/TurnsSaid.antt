@@ -20,7 +20,7 @@ use Rattle.http_front.specs.Calls.{first_call}
 use Rattle.http_front.specs.Contents.{Contents, with_content, asset_content}
 use Rattle.http_front.specs.Entries.{begins, is_begun}
 use Rattle.http_front.specs.Responses.{replied_with}
-use Rattle.http_front.specs.Turns.{answer_of}
+use Rattle.http_front.specs.Turns.{turn_answer}
 use Rattle.session_history.specs.declared.ask.Ask.TheVariants as asks
 use Rattle.session_history.specs.Asking.{ask_of}
 use Rattle.repo_core.specs.Answers.{reply_of}
@@ -57,11 +57,11 @@ turned_of_one devices old mid new moment head content bytes c said asks called r
     one = ap (λ (b : Bool). b && is_begun said) asks.begins_none
 
     says : devices.told → IsSome (devices.table new.table) → (state : State) (contents : Contents) → Stands devices old state contents
-        → IsAnswer (answer_of contents (record { request = whole head content; stop = None; entries = called.entries })) bytes head.closes
+        → IsAnswer (turn_answer contents (record { request = whole head content; stop = None; entries = called.entries })) bytes head.closes
     says told is state contents stands =
         let given = gives told (told_before devices mid new rests is) state contents stands in
         let last : last_reply called.entries ≡ said = last_of_call _ _ c said called.entries one called.made in
-        let answer : answer_of contents (record { request = whole head content; stop = None; entries = called.entries }) ≡ reply_to contents head said =
+        let answer : turn_answer contents (record { request = whole head content; stop = None; entries = called.entries }) ≡ reply_to contents head said =
         answer_whole (with_content (last_reply called.entries) content contents) head content called.entries asks.plain
         ∙ ap (λ (r : Reply). reply_to (with_content r content contents) head r) last
         ∙ ap (λ (l : Contents). reply_to l head said) (given.0.keeps content) in

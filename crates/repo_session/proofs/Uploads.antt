@@ -34,7 +34,7 @@ use Rattle.repo_session.specs.Standing.{Stands}
 use Rattle.repo_session.specs.Leads.{IsEntryOf, LeadsBy}
 use Rattle.repo_session.specs.Called.{Since}
 use Rattle.repo_session.specs.Resting.{Rests}
-use Rattle.repo_session.specs.Answering.{HasBegun, TurnedTo, stop_of}
+use Rattle.repo_session.specs.Answering.{HasBegun, TurnedTo, stop_for}
 use Rattle.repo_session.specs.Turned.{setting_of, stop_faults, TurnMade, TurnLeads}
 use Rattle.repo_session.proofs.Makings.{said_to, makes_one}
 use Rattle.repo_session.proofs.Sayings.{answer_stop, answer_stopped, answer_cut}
@@ -109,7 +109,7 @@ upload_turn {D} {T} devices start mid new head store item stop moment put of end
         }
 
 -- a failed upload stops by a fault of the disk only where its writer failed, and then the disk's count rose
-pub stop_rose : (why : UploadErr) (before now part : ℕ) → (why ≡ errors.DiskFault → 0 < part) → TakesBack before now part → RoseBy (stop_faults (Some (stop_of why))) before now
+pub stop_rose : (why : UploadErr) (before now part : ℕ) → (why ≡ errors.DiskFault → 0 < part) → TakesBack before now part → RoseBy (stop_faults (Some (stop_for why))) before now
 stop_rose errors.DiskFault before now part faulty takes = takes.faulty (faulty refl)
 stop_rose errors.BodyTooLarge before now part faulty takes = rose_none before now takes.later
 stop_rose errors.Dead before now part faulty takes = rose_none before now takes.later
@@ -165,8 +165,8 @@ upload_cut devices start mid new head store content moment put begun rests = rec
 pub upload_failed : {D T : Type 0} (devices : Devices D T) (start mid new : CoreView D T) (head : Head) (store : List ℕ) (why said : UploadErr) (moment : Moment) (part : ℕ)
     → is_put head.method ≡ true → HasBegun devices start mid head store → Rests devices mid new
     → (why ≡ errors.DiskFault → 0 < part) → TakesBack (devices.disk_faults mid.disk) (devices.disk_faults new.disk) part
-    → why_upload said ≡ why_stopped (stop_of why)
+    → why_upload said ≡ why_stopped (stop_for why)
     → AnswersEach (TurnedTo devices start new moment) head (told head (last_refusal false (why_upload said)))
 upload_failed devices start mid new head store why said moment part put begun rests faulty takes words =
     subst (λ (w : Why). AnswersEach (TurnedTo devices start new moment) head (told head (last_refusal false w))) (sym words)
-    (upload_stopped devices start mid new head store (stop_of why) moment put begun rests (stop_rose why _ _ part faulty takes))
+    (upload_stopped devices start mid new head store (stop_for why) moment put begun rests (stop_rose why _ _ part faulty takes))

@@ -27,13 +27,13 @@ use Rattle.repo_session.specs.Turned.{Turned}
 
 -- What contracts see of a session: its core, the moments that it draws, the upload whose content is being read, and the content that is
 -- open, which is to be given out.
-pub record SessionView (D T W R : Type 0) : Type 0 where
+pub record AnsweringView (D T W R : Type 0) : Type 0 where
   pub core : CoreView D T
   pub draws : Draws
   pub upload : Option (Upload W)
   pub found : Option (Download R)
 
-abbrev pub session_view : {D T W R : Type 0} → CoreView D T → Draws → Option (OpenUpload W) → Option (Download R) → SessionView D T W R
+abbrev pub session_view : {D T W R : Type 0} → CoreView D T → Draws → Option (OpenUpload W) → Option (Download R) → AnsweringView D T W R
 session_view core draws upload found = record { core = core; draws = draws; upload = option_map (λ o. o.upload) upload; found = found }
 
 -- what the callers of a core hold, once what is open was let go by caller 0
@@ -50,7 +50,7 @@ abbrev pub TurnedTo : {D T : Type 0} → Devices D T → CoreView D T → CoreVi
 TurnedTo devices old new moment request answer = Turned devices old new moment request answer.bytes answer.ends
 
 -- The request was answered so, by one moment.
-pub record Answered {D T W R : Type 0} (devices : Devices D T) (old new : SessionView D T W R) (request : Item) (answer : Answer) : Type 0 where
+pub record Answered {D T W R : Type 0} (devices : Devices D T) (old new : AnsweringView D T W R) (request : Item) (answer : Answer) : Type 0 where
   pub moment : Moment
   pub drawn : Drew old.draws new.draws moment
   pub turned : TurnedTo devices old.core new.core moment request answer
@@ -68,15 +68,15 @@ pub record IsBegun {D T W : Type 0} (devices : Devices D T) (told : Type 0) (wri
   pub taken : devices.told → HasTaken told written upload content
 
 -- An upload is open, and of its content so much was taken.
-pub record UploadWaits {D T W R : Type 0} (devices : Devices D T) (told : Type 0) (written : W → List ℕ) (old new : SessionView D T W R) (head : Head) (content : List ℕ) : Type 0 where
+pub record UploadWaits {D T W R : Type 0} (devices : Devices D T) (told : Type 0) (written : W → List ℕ) (old new : AnsweringView D T W R) (head : Head) (content : List ℕ) : Type 0 where
   pub draws : new.draws ≡ old.draws
   pub upload : Upload W
   pub kept : new.upload ≡ Some upload
   pub begun : IsBegun devices told written old.core new.core head upload content
 
 -- what a failed upload is to the session
-abbrev pub stop_of : UploadErr → Stop
-stop_of errors.DiskFault = stops.DiskFault
-stop_of errors.BodyTooLarge = stops.NoMemory
-stop_of errors.Dead = stops.NoMemory
-stop_of errors.NoMemory = stops.NoMemory
+abbrev pub stop_for : UploadErr → Stop
+stop_for errors.DiskFault = stops.DiskFault
+stop_for errors.BodyTooLarge = stops.NoMemory
+stop_for errors.Dead = stops.NoMemory
+stop_for errors.NoMemory = stops.NoMemory

@@ -23,7 +23,7 @@ use Rattle.repo_session.specs.Standing.{Stands}
 use Rattle.repo_session.specs.Called.{Called}
 use Rattle.repo_session.specs.Holding.{GivesContent}
 use Rattle.repo_session.specs.Drawing.{Drew}
-use Rattle.repo_session.specs.Answering.{SessionView}
+use Rattle.repo_session.specs.Answering.{AnsweringView}
 
 -- what a look opened
 abbrev pub opened_by : {R : Type 0} → Result (GotOf (Download R)) Refusal → Option (Download R)
@@ -46,7 +46,7 @@ ShowsHeld left contents None (reply.Found asset) = Has contents asset.blob
 ShowsHeld left contents found said = Unit {0}
 
 -- The request with that head, a GET or HEAD, was looked up by one moment and replied so. What is open now is the content that it found.
-pub record IsLooked {D T W R : Type 0} (devices : Devices D T) (left : R → List ℕ) (old new : SessionView D T W R) (head : Head) (said : Reply) : Type 0 where
+pub record IsLooked {D T W R : Type 0} (devices : Devices D T) (left : R → List ℕ) (old new : AnsweringView D T W R) (head : Head) (said : Reply) : Type 0 where
   pub moment : Moment
   pub drawn : Drew old.draws new.draws moment
   pub kind : Look

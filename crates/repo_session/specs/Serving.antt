@@ -5,7 +5,7 @@ use Rattle.nx_base.specs.declared.moment.Moment.{Moment}
 use Rattle.repo_model.specs.State.{State}
 use Rattle.http_requests.specs.Requests.{Item}
 use Rattle.http_front.specs.Contents.{Contents}
-use Rattle.http_front.specs.Turns.{Turn, AreTurns, contents_after, answer_of, requests_of, entries_of, turns_said}
+use Rattle.http_front.specs.Turns.{Turn, AreTurns, contents_after, turn_answer, requests_of, entries_of, turns_said}
 use Rattle.repo_core.specs.View.{CoreView}
 use Rattle.repo_core.specs.Devices.{Devices}
 use Rattle.repo_session.specs.Standing.{Stands}
@@ -20,7 +20,7 @@ all_stop_faults turns = sum_by (λ turn. stop_faults turn.stop) turns
 -- the session ends behind the last of the turns, or not
 abbrev pub LastEnds : Bool → Contents → List Turn → Type 0
 LastEnds over contents [] = Unit {0}
-LastEnds over contents (turn ∷ []) = (answer_of contents turn).ends ≡ over
+LastEnds over contents (turn ∷ []) = (turn_answer contents turn).ends ≡ over
 LastEnds over contents (turn ∷ next ∷ turns) = LastEnds over (contents_after turn contents) (next ∷ turns)
 
 -- By the moments from the n-th on the turns lead from the state and the contents to those that the new core stands for. Those bytes are

@@ -15,7 +15,7 @@ use Rattle.http_front.specs.declared.stop.Stop.TheVariants as stops
 use Rattle.http_front.specs.Answers.{Answer, last_reply}
 use Rattle.http_front.specs.Contents.{Contents}
 use Rattle.http_front.specs.Served.{Serves}
-use Rattle.http_front.specs.Turns.{Setting, Turn, Makes, MayStop, contents_after, answer_of}
+use Rattle.http_front.specs.Turns.{Setting, Turn, Makes, MayStop, contents_after, turn_answer}
 use Rattle.repo_core.specs.View.{CoreView}
 use Rattle.repo_core.specs.Devices.{Devices}
 use Rattle.repo_session.specs.Standing.{Stands}
@@ -77,7 +77,7 @@ pub record Turned {D T : Type 0} (devices : Devices D T) (old new : CoreView D T
   pub entries : List Entry
   pub made : TurnMade devices old new moment (record { request = request; stop = stop; entries = entries })
   pub says : devices.told → IsSome (devices.table new.table) → (state : State) (contents : Contents) → Stands devices old state contents
-      → IsAnswer (answer_of contents (record { request = request; stop = stop; entries = entries })) bytes ends
+      → IsAnswer (turn_answer contents (record { request = request; stop = stop; entries = entries })) bytes ends
 
 -- A download failed: told, only where the disk's count rose. A table that is told was told before.
 abbrev pub DownloadFails : {D T : Type 0} → Devices D T → CoreView D T → CoreView D T → Type 0

@@ -12,7 +12,7 @@ ghost use Rattle.session_driver.specs.Replying.{AnswersEach, PutsAs, told};
 ghost use Rattle.repo_core.specs.View.{CoreView};
 ghost use Rattle.repo_core.specs.Devices.{devices};
 ghost use Rattle.repo_session.specs.Resting.{Rests};
-ghost use Rattle.repo_session.specs.Answering.{HasBegun, IsBegun, TurnedTo, stop_of};
+ghost use Rattle.repo_session.specs.Answering.{HasBegun, IsBegun, TurnedTo, stop_for};
 
 use crate::open_upload::OpenUpload;
 use asset_keeper::Keeper;
@@ -24,7 +24,7 @@ use repo_model::{Reply, UploadErr};
 
 /// What a failed upload is answered with: a fault of the disk, or want of memory, as which all else stops a request.
 fn failure(why: UploadErr) -> UploadErr
-    ensures { why_upload result ≡ why_stopped (stop_of why) }
+    ensures { why_upload result ≡ why_stopped (stop_for why) }
 {
     match why {
         UploadErr::DiskFault => UploadErr::DiskFault,

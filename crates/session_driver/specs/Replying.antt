@@ -5,17 +5,18 @@ use Rattle.repo_model.specs.declared.transfer.UploadErr.{UploadErr}
 use Rattle.http_heads.specs.declared.head.Head.{Head}
 use Rattle.http_requests.specs.Requests.{Item}
 use Rattle.http_front.specs.Asking.{IsOf}
-use Rattle.http_front.specs.Answers.{Answer, behind, begin_refused, last_refusal}
-use Rattle.session_history.specs.Phases.{is_begun, go_on, put_reply}
+use Rattle.http_front.specs.Answers.{Answer, preceded, begin_refused, last_refusal}
+use Rattle.http_front.specs.Entries.{is_begun}
+use Rattle.session_history.specs.Phases.{go_on, put_reply}
 use Rattle.session_history.specs.Saying.{why_upload}
 
 -- it is the answer to each request with that head, whatever its content is
 abbrev pub AnswersEach : (Item → Answer → Type 0) → Head → Answer → Type 0
 AnswersEach Is head answer = (item : Item) → IsOf head item → Is item answer
 
--- the answer to an upload that was begun: behind what it was told then
+-- the answer to an upload that was begun: preceded what it was told then
 abbrev pub told : Head → Answer → Answer
-told head answer = behind (go_on head).bytes answer
+told head answer = preceded (go_on head).bytes answer
 
 -- what became of the beginning of an upload: its content comes next; or this is the answer, whatever its content is
 abbrev pub BeginsAs : (Item → Answer → Type 0) → Type 0 → Head → Result Reply UploadErr → Type 0

@@ -3,8 +3,8 @@ ghost use Rattle.std.specs.Prelude.{◌≡◌, ◌<◌, ℕ, Bool, false, List, 
 ghost use Rattle.std.specs.declared.option.Option.{Option};
 ghost use Rattle.http_front.specs.Sessions.{HasEndCause};
 ghost use Rattle.http_session.specs.Views.{awaits_at};
-ghost use Rattle.session_driver.specs.Standing.{HasFed, HasPast, Asked, Leads, Stands};
-ghost use Rattle.session_driver.specs.Going.{Goes, EndsSo, HasStepCause, HasWriteCause, Keeps, distance};
+ghost use Rattle.session_driver.specs.Standing.{HasFed, HasPast, Asked, Leads, IsUnderWay};
+ghost use Rattle.session_driver.specs.Going.{Goes, EndsSo, HasStepCause, HasWriteCause, KeepsInput, distance};
 
 use crate::ends::{cut_short, refuse_head};
 use crate::looks::{answer_delete, answer_look};
@@ -28,7 +28,7 @@ fn make_call<R: Repository, K: Sink>(
         → Asked R.Answers R.Uploads x repository.old session.old fed taken (K.taken output.old) ask → HasFed session.old left left' ended fed
         → Goes (Leads R.Answers R.Uploads x repository.new session.new taken (K.taken output.new) ask) (EndsSo R.Answers R.Fails x repository.new left left' ended taken (K.taken output.new)) session.new left left' ended result }
     ensures cause { HasWriteCause (K.faults output.old) (K.faults output.new) result }
-    ensures keeps { result ≡ None → Keeps session.old session.new }
+    ensures keeps { result ≡ None → KeepsInput session.old session.new }
 {
     match ask {
         Ask::Begin(begin) => begin_upload(session, repository, begin, output),
@@ -49,8 +49,8 @@ fn take_step<R: Repository, I: Input, K: Sink>(
     requires due { awaits_at session.old.place ≡ false }
     requires past { HasPast session.old }
     ensures goes { (x : R) (left : Option (List ℕ)) (taken : Option (List ℕ)) (fed : List ℕ)
-        → HasFed session.old left (I.left input.old) (I.ended input.old) fed → Stands R.Answers R.Uploads x repository.old session.old taken (K.taken output.old) fed
-        → Goes (λ fed. Stands R.Answers R.Uploads x repository.new session.new taken (K.taken output.new) fed × (distance session.new < distance session.old)) (EndsSo R.Answers R.Fails x repository.new left (I.left input.new) (I.ended input.new) taken (K.taken output.new)) session.new left (I.left input.new) (I.ended input.new) result }
+        → HasFed session.old left (I.left input.old) (I.ended input.old) fed → IsUnderWay R.Answers R.Uploads x repository.old session.old taken (K.taken output.old) fed
+        → Goes (λ fed. IsUnderWay R.Answers R.Uploads x repository.new session.new taken (K.taken output.new) fed × (distance session.new < distance session.old)) (EndsSo R.Answers R.Fails x repository.new left (I.left input.new) (I.ended input.new) taken (K.taken output.new)) session.new left (I.left input.new) (I.ended input.new) result }
     ensures cause { HasStepCause (I.faults input.old) (I.faults input.new) (K.faults output.old) (K.faults output.new) result }
 {
     match session.next() {

@@ -12,7 +12,7 @@ ghost use Rattle.http_session.specs.Taken.{Past, Took, phase_of};
 ghost use Rattle.http_session.specs.Views.{is_over_at, is_reading_at};
 ghost use Rattle.session_driver.specs.Ending.{over_end};
 ghost use Rattle.session_driver.specs.Replying.{told};
-ghost use Rattle.session_driver.specs.Standing.{HasFed, IsRefused};
+ghost use Rattle.session_driver.specs.Standing.{HasFed, IsHeadRefused};
 ghost use Rattle.session_driver.specs.Going.{EndsSo, HasLastCause};
 
 use crate::repository::Repository;
@@ -49,7 +49,7 @@ pub(crate) fn refuse_head<R: Repository, K: Sink>(
     output: &mut K,
 ) -> End
     ensures ends { (x : R) (left left' : Option (List ℕ)) (ended : Bool) (taken : Option (List ℕ)) (fed : List ℕ)
-        → IsRefused R.Answers x repository.old session.old fed taken (K.taken output.old) → HasFed session.old left left' ended fed
+        → IsHeadRefused R.Answers x repository.old session.old fed taken (K.taken output.old) → HasFed session.old left left' ended fed
         → EndsSo R.Answers R.Fails x repository.new left left' ended taken (K.taken output.new) result }
     ensures cause { HasLastCause (K.faults output.old) (K.faults output.new) result }
 {

@@ -4,7 +4,7 @@ ghost use Rattle.std.specs.declared.option.Option.{Option};
 ghost use Rattle.http_session.specs.Views.{NeedsBytes};
 ghost use Rattle.http_session.specs.Taken.{Past};
 ghost use Rattle.http_session.specs.Steps.{IsStill};
-ghost use Rattle.session_driver.specs.Standing.{HasFed, Stands, StandsBy};
+ghost use Rattle.session_driver.specs.Standing.{HasFed, IsUnderWay, StandsBy};
 ghost use Rattle.session_driver.specs.Going.{Goes, EndsSo, HasReadCause, distance};
 
 use crate::ends::cut_short;
@@ -21,7 +21,7 @@ pub(crate) fn read_more<R: Repository, I: Input>(
     requires { NeedsBytes session.old }
     ensures goes { (x : R) (left : Option (List ℕ)) (taken taken' : Option (List ℕ)) (fed : List ℕ) (past : Past)
         → HasFed session.old left (I.left input.old) (I.ended input.old) fed → session.old.ended ≡ false → IsStill fed past session.old → StandsBy R.Answers R.Uploads x repository.old session.old fed past taken taken'
-        → Goes (λ fed. Stands R.Answers R.Uploads x repository.new session.new taken taken' fed × (distance session.new < distance session.old)) (EndsSo R.Answers R.Fails x repository.new left (I.left input.new) (I.ended input.new) taken taken') session.new left (I.left input.new) (I.ended input.new) result }
+        → Goes (λ fed. IsUnderWay R.Answers R.Uploads x repository.new session.new taken taken' fed × (distance session.new < distance session.old)) (EndsSo R.Answers R.Fails x repository.new left (I.left input.new) (I.ended input.new) taken taken') session.new left (I.left input.new) (I.ended input.new) result }
     ensures cause { HasReadCause (I.faults input.old) (I.faults input.new) result }
 {
     match input.fill(session) {

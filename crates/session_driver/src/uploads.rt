@@ -4,8 +4,8 @@ ghost use Rattle.std.specs.declared.option.Option.{Option};
 ghost use Rattle.http_heads.specs.declared.head.Head.{Head};
 ghost use Rattle.session_history.specs.declared.ask.Ask.TheVariants as asks;
 ghost use Rattle.session_history.specs.Asking.{ask_of};
-ghost use Rattle.session_driver.specs.Standing.{HasFed, IsAtHead, IsReplied, IsWhole, IsSpoiled, Stands, StandsBetween, StandsInside};
-ghost use Rattle.session_driver.specs.Going.{Goes, EndsSo, HasWriteCause, HasLastCause, Keeps};
+ghost use Rattle.session_driver.specs.Standing.{HasFed, IsAtHead, IsReplied, IsContentWhole, IsSpoiled, IsUnderWay, StandsBetween, StandsInside};
+ghost use Rattle.session_driver.specs.Going.{Goes, EndsSo, HasWriteCause, HasLastCause, KeepsInput};
 
 use crate::ends::give_up;
 use crate::repository::Repository;
@@ -23,9 +23,9 @@ fn answer_begun<R: Repository, K: Sink>(
 ) -> Option<End>
     ensures goes { (x : R) (left left' : Option (List ℕ)) (ended : Bool) (taken : Option (List ℕ)) (fed : List ℕ)
         → IsReplied R.Answers R.Uploads x repository.old session.old fed taken (K.taken output.old) → HasFed session.old left left' ended fed
-        → Goes (Stands R.Answers R.Uploads x repository.new session.new taken (K.taken output.new)) (EndsSo R.Answers R.Fails x repository.new left left' ended taken (K.taken output.new)) session.new left left' ended result }
+        → Goes (IsUnderWay R.Answers R.Uploads x repository.new session.new taken (K.taken output.new)) (EndsSo R.Answers R.Fails x repository.new left left' ended taken (K.taken output.new)) session.new left left' ended result }
     ensures cause { HasWriteCause (K.faults output.old) (K.faults output.new) result }
-    ensures keeps { Keeps session.old session.new }
+    ensures keeps { KeepsInput session.old session.new }
 {
     match say_and_go_on(session, output) {
         None => None,
@@ -45,9 +45,9 @@ pub(crate) fn begin_upload<R: Repository, K: Sink>(
 ) -> Option<End>
     ensures goes { (x : R) (left left' : Option (List ℕ)) (ended : Bool) (taken : Option (List ℕ)) (fed : List ℕ) (head : Head)
         → IsAtHead R.Answers x repository.old session.old fed head taken (K.taken output.old) → HasFed session.old left left' ended fed → ask_of head head.method ≡ asks.Begin begin
-        → Goes (Stands R.Answers R.Uploads x repository.new session.new taken (K.taken output.new)) (EndsSo R.Answers R.Fails x repository.new left left' ended taken (K.taken output.new)) session.new left left' ended result }
+        → Goes (IsUnderWay R.Answers R.Uploads x repository.new session.new taken (K.taken output.new)) (EndsSo R.Answers R.Fails x repository.new left left' ended taken (K.taken output.new)) session.new left left' ended result }
     ensures cause { HasWriteCause (K.faults output.old) (K.faults output.new) result }
-    ensures keeps { Keeps session.old session.new }
+    ensures keeps { KeepsInput session.old session.new }
 {
     match repository.begin(begin) {
         Ok(reply) => {
@@ -92,10 +92,10 @@ pub(crate) fn commit<R: Repository, K: Sink>(
     output: &mut K,
 ) -> Option<End>
     ensures goes { (x : R) (left left' : Option (List ℕ)) (ended : Bool) (taken : Option (List ℕ)) (fed : List ℕ)
-        → IsWhole R.Answers R.Uploads x repository.old session.old fed taken (K.taken output.old) → HasFed session.old left left' ended fed
+        → IsContentWhole R.Answers R.Uploads x repository.old session.old fed taken (K.taken output.old) → HasFed session.old left left' ended fed
         → Goes (StandsBetween R.Answers x repository.new session.new taken (K.taken output.new)) (EndsSo R.Answers R.Fails x repository.new left left' ended taken (K.taken output.new)) session.new left left' ended result }
     ensures cause { HasWriteCause (K.faults output.old) (K.faults output.new) result }
-    ensures keeps { Keeps session.old session.new }
+    ensures keeps { KeepsInput session.old session.new }
 {
     match repository.commit() {
         Ok(reply) => {

@@ -16,7 +16,8 @@ use Rattle.http_requests.proofs.Unique.{unique}
 use Rattle.http_front.specs.Asking.{is_empty, OnlyPutHasContent}
 use Rattle.http_front.proofs.Profile.{fits}
 use Rattle.session_history.specs.Marks.{Mark, refused, accepted, content, spoiled, replied, failed, broke}
-use Rattle.session_history.specs.Phases.{Phase, between, asked, beginning, inside, putting, over, is_begun, after}
+use Rattle.http_front.specs.Entries.{is_begun}
+use Rattle.session_history.specs.Phases.{Phase, between, asked, beginning, inside, putting, over, after}
 use Rattle.session_history.specs.Histories.{IsHistory}
 use Rattle.session_history.specs.Requests.{alone, requests_in, BeginsWith}
 use Rattle.session_history.proofs.Goes.{Goes, of_history, accepts, refuses, holds, stops, left}

@@ -11,7 +11,7 @@ use Rattle.http_requests.specs.Bodies.{HoldsBody}
 use Rattle.http_requests.specs.Requests.{stop_of}
 use Rattle.session_history.specs.Marks.{Mark, refused, accepted, content, spoiled}
 use Rattle.session_history.specs.Phases.{Phase, between, inside, over, after, after_all}
-use Rattle.session_history.specs.Histories.{IsTextOf, Spans, Rests, IsHistory}
+use Rattle.session_history.specs.Histories.{IsTextOf, Spans, HasNoNext, IsHistory}
 
 -- the mark comes next of the bytes, in front of the rest
 abbrev pub Comes : Phase → Mark → List ℕ → List ℕ → Type 0
@@ -19,14 +19,14 @@ Comes phase mark bytes rest = (prefix : List ℕ) × (bytes ≡ prefix ++ rest) 
 
 -- from a phase on the bytes make these marks and no more; of the last content so much came
 abbrev pub Goes : Phase → List ℕ → List Mark → List ℕ → Type 0
-Goes phase bytes [] came = Rests phase bytes came
+Goes phase bytes [] came = HasNoNext phase bytes came
 Goes phase bytes (mark ∷ marks) came = (rest : List ℕ) × Comes phase mark bytes rest × Goes (after phase mark) rest marks came
 
 goes : (phase : Phase) (marks : List Mark) (bytes text rest came : List ℕ) → bytes ≡ text ++ rest → Spans phase marks text
-    → Rests (after_all phase marks) rest came → Goes phase bytes marks came
+    → HasNoNext (after_all phase marks) rest came → Goes phase bytes marks came
 goes phase [] bytes text rest came parts none rests =
     let same : bytes ≡ rest = parts ∙ ap (λ (t : List ℕ). t ++ rest) none in
-    subst (λ (t : List ℕ). Rests phase t came) (sym same) rests
+    subst (λ (t : List ℕ). HasNoNext phase t came) (sym same) rests
 goes phase (mark ∷ marks) bytes text rest came parts (prefix, back, halves, is_text, spans) rests =
     let here : bytes ≡ prefix ++ (back ++ rest) = parts ∙ ap (λ (t : List ℕ). t ++ rest) halves ∙ append_assoc prefix back rest in
     (back ++ rest, (prefix, here, is_text), goes (after phase mark) marks (back ++ rest) back rest came refl spans rests)

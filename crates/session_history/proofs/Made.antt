@@ -14,8 +14,9 @@ use Rattle.http_requests.specs.Requests.{Item, AreRequests}
 use Rattle.http_front.specs.Asking.{is_empty, OnlyPutHasContent}
 use Rattle.http_front.proofs.Profile.{fits}
 use Rattle.session_history.specs.Marks.{Mark, refused, accepted, content, spoiled, replied, failed, broke}
-use Rattle.session_history.specs.Phases.{Phase, between, asked, beginning, inside, putting, over, is_begun, after}
-use Rattle.session_history.specs.Histories.{Rests, IsHistory}
+use Rattle.http_front.specs.Entries.{is_begun}
+use Rattle.session_history.specs.Phases.{Phase, between, asked, beginning, inside, putting, over, after}
+use Rattle.session_history.specs.Histories.{HasNoNext, IsHistory}
 use Rattle.session_history.specs.Requests.{alone, requests_in, TellsAll}
 use Rattle.session_history.proofs.Goes.{Goes, of_history, accepts, refuses, holds, stops, left}
 
@@ -60,7 +61,7 @@ empty_makes head bytes items e b = λ stream a. (b.0, (bytes, record { body = by
 -- ---- behind an answer, which leaves the bytes
 
 -- nothing comes behind a request
-rested : (closes : Bool) (bytes came : List ℕ) → Rests (if closes then over else between) bytes came
+rested : (closes : Bool) (bytes came : List ℕ) → HasNoNext (if closes then over else between) bytes came
     → Makes (if closes then over else between) bytes (requests_in (if closes then over else between) [] came)
 rested true bytes came x = refl
 rested false bytes came x = x.0
@@ -75,7 +76,7 @@ abbrev pub begun_or : Head → Bool → Bool → Bool → Phase
 begun_or head begun closes empty = if begun then inside head else if closes || not empty then over else between
 
 -- nothing comes behind a beginning
-begun_rested : (head : Head) (begun closes empty : Bool) (bytes came : List ℕ) → Rests (begun_or head begun closes empty) bytes came
+begun_rested : (head : Head) (begun closes empty : Bool) (bytes came : List ℕ) → HasNoNext (begun_or head begun closes empty) bytes came
     → Makes (begun_or head begun closes empty) bytes (requests_in (begun_or head begun closes empty) [] came)
 begun_rested head true closes empty bytes came x = λ stream a. (true, (record { body = bytes; accepts = a; holds = x }, refl, refl))
 begun_rested head false closes empty bytes came x = rested (closes || not empty) bytes came x

@@ -9,7 +9,8 @@ use Rattle.http_requests.specs.Requests.{Item, AreRequests}
 use Rattle.http_front.specs.Asking.{is_empty}
 use Rattle.http_front.proofs.Profile.{fits}
 use Rattle.session_history.specs.Marks.{Mark, refused, accepted, content, spoiled, replied, failed, broke}
-use Rattle.session_history.specs.Phases.{Phase, between, asked, beginning, inside, putting, over, is_begun, after, after_all}
+use Rattle.http_front.specs.Entries.{is_begun}
+use Rattle.session_history.specs.Phases.{Phase, between, asked, beginning, inside, putting, over, after, after_all}
 use Rattle.session_history.specs.Histories.{Spans}
 use Rattle.session_history.specs.Requests.{alone, requests_in}
 use Rattle.session_history.proofs.Goes.{Comes, accepts, holds, left}

@@ -12,9 +12,9 @@ use Rattle.http_requests.specs.Bodies.{HoldsBody}
 use Rattle.http_requests.specs.Requests.{AreRequests, stop_of}
 use Rattle.http_requests.proofs.Unique.{body_same}
 use Rattle.http_requests.proofs.FirstHeads.{accepts_same, accepts_refused, refused_same, refused_some, refused_open, accepts_some, accepts_open}
-use Rattle.session_history.specs.Marks.{Mark, refused, accepted, content, spoiled, replied, failed, broke, answers_in, merged}
+use Rattle.session_history.specs.Marks.{Mark, refused, accepted, content, spoiled, replied, failed, broke, answers_in, merged_mark}
 use Rattle.session_history.specs.Phases.{Phase, between, asked, beginning, inside, putting, over, after}
-use Rattle.session_history.specs.Histories.{Rests, IsHistory}
+use Rattle.session_history.specs.Histories.{HasNoNext, IsHistory}
 use Rattle.session_history.proofs.Goes.{Comes, Goes, of_history, accepts, refuses, holds, stops, left}
 
 -- ---- one content
@@ -36,7 +36,7 @@ stop_same a b BodyTooLarge BodyTooLarge e = cc
 
 -- ---- nothing comes
 
-rests_same : (phase : Phase) (bytes came other : List ℕ) → Rests phase bytes came → Rests phase bytes other → came ≡ other
+rests_same : (phase : Phase) (bytes came other : List ℕ) → HasNoNext phase bytes came → HasNoNext phase bytes other → came ≡ other
 rests_same between bytes came other x y = x.1 ∙ sym y.1
 rests_same (inside head) bytes came other x y =
     let same : readings.cut came ≡ readings.cut other = body_same head.framing bytes (readings.cut came) (readings.cut other) x y in
@@ -95,7 +95,7 @@ no_refusal : (bytes : List ℕ) (why : HeadErr) (bare ends_inside : Bool) → Ar
 no_refusal bytes why bare true x y = refused_open (drop_blank bytes) why bare y x
 no_refusal bytes why bare false x y = refused_some (drop_blank bytes) why bare y x
 
-none_read : (phase : Phase) (mark : Mark) (bytes rest came : List ℕ) → Rests phase bytes came → Reads phase mark bytes rest → ⊥
+none_read : (phase : Phase) (mark : Mark) (bytes rest came : List ℕ) → HasNoNext phase bytes came → Reads phase mark bytes rest → ⊥
 none_read between (accepted head) bytes rest came x y = no_head bytes rest head x.0.0 x.0.1 y
 none_read between (refused why bare) bytes rest came x y = no_refusal bytes why bare x.0.0 x.0.1 y
 none_read (inside head) (content whole) bytes rest came x y =
@@ -110,11 +110,11 @@ none_read phase mark bytes rest came x y = y
 -- they are one, and what comes behind the one comes behind the other
 abbrev Joins : Phase → Mark → Mark → List ℕ → List ℕ → Type 0
 Joins phase mark other rest more =
-    (merged mark ≡ merged other) × ((marks : List Mark) (came : List ℕ) → Goes (after phase other) more marks came → Goes (after phase mark) rest marks came)
+    (merged_mark mark ≡ merged_mark other) × ((marks : List Mark) (came : List ℕ) → Goes (after phase other) more marks came → Goes (after phase mark) rest marks came)
 
 joins : (phase : Phase) (mark other : Mark) (rest more : List ℕ) → mark ≡ other → rest ≡ more → Joins phase mark other rest more
 joins phase mark other rest more e f = (
-  ap merged e,
+  ap merged_mark e,
   λ marks came x.
       subst (λ (m : Mark). Goes (after phase m) rest marks came) (sym e) (subst (λ (t : List ℕ). Goes (after phase other) t marks came) (sym f) x),
 )
@@ -185,7 +185,7 @@ not_both phase mark answer bytes rest more marks answers came x y z e = x
 -- ---- the two histories
 
 -- where the one has no more marks, the other has none
-no_more : (phase : Phase) (mark : Mark) (marks : List Mark) (bytes rest came : List ℕ) → Rests phase bytes came → Comes phase mark bytes rest
+no_more : (phase : Phase) (mark : Mark) (marks : List Mark) (bytes rest came : List ℕ) → HasNoNext phase bytes came → Comes phase mark bytes rest
     → [] ≡ answers_in (mark ∷ marks) → ⊥
 no_more phase mark marks bytes rest came x y e = by_kind (kind phase mark marks bytes rest y)
   where
@@ -213,7 +213,7 @@ both phase mark other marks others bytes rest more came last (inr k) (inl l) x y
     absurd (not_both phase other mark bytes more rest others (answers_in marks) last l.0 k.0 y (sym l.1 ∙ sym e ∙ k.1))
 
 same : (phase : Phase) (marks others : List Mark) (bytes came other : List ℕ) → Goes phase bytes marks came → Goes phase bytes others other
-    → answers_in marks ≡ answers_in others → (map merged marks ≡ map merged others) × (came ≡ other)
+    → answers_in marks ≡ answers_in others → (map merged_mark marks ≡ map merged_mark others) × (came ≡ other)
 same phase [] [] bytes came other x y e = (refl, rests_same phase bytes came other x y)
 same phase [] (n ∷ others) bytes came other x y e = absurd (no_more phase n others bytes y.0 came x y.1 e)
 same phase (m ∷ marks) [] bytes came other x y e = absurd (no_more phase m marks bytes x.0 other y x.1 (sym e))
@@ -222,10 +222,10 @@ same phase (m ∷ marks) (n ∷ others) bytes came other x y e =
     let second = kind phase n others bytes y.0 y.1 in
     let here = both phase m n marks others bytes x.0 y.0 came other first second x.2 y.2 e in
     let behind = same (after phase m) marks others x.0 came other x.2 (here.0.1 others other y.2) here.1 in
-    let one : merged m ≡ merged n = here.0.0 in
-    let rest : map merged marks ≡ map merged others = behind.0 in
+    let one : merged_mark m ≡ merged_mark n = here.0.0 in
+    let rest : map merged_mark marks ≡ map merged_mark others = behind.0 in
     (cc, behind.1)
 
 pub one : (bytes : List ℕ) (marks others : List Mark) (came other : List ℕ) → IsHistory bytes marks came → IsHistory bytes others other
-    → answers_in marks ≡ answers_in others → (map merged marks ≡ map merged others) × (came ≡ other)
+    → answers_in marks ≡ answers_in others → (map merged_mark marks ≡ map merged_mark others) × (came ≡ other)
 one bytes marks others came other x y e = same between marks others bytes came other (of_history bytes marks came x) (of_history bytes others other y) e

@@ -5,7 +5,7 @@ use Rattle.http_chunks.specs.Reading as readings
 use Rattle.http_requests.specs.Heads.{Accepts, IsRefused}
 use Rattle.http_requests.specs.Bodies.{HoldsBody}
 use Rattle.http_requests.specs.Requests.{AreRequests, stop_of}
-use Rattle.session_history.specs.Marks.{Mark, refused, accepted, content, spoiled, replied, failed, broke, answers_in, merged}
+use Rattle.session_history.specs.Marks.{Mark, refused, accepted, content, spoiled, replied, failed, broke, answers_in, merged_mark}
 use Rattle.session_history.specs.Phases.{Phase, between, asked, beginning, inside, putting, over, after, after_all}
 
 -- The text is that of the mark, whatever follows it. An answer has no text; where an upload broke, what was read of its content.
@@ -31,13 +31,13 @@ Spans phase (mark ∷ marks) text =
 
 -- Nothing comes next of the bytes: no head stands in them, or the content isn't whole, of which so much came. In the other phases an
 -- answer comes next, or nothing.
-abbrev pub Rests : Phase → List ℕ → List ℕ → Type 0
-Rests between bytes came = ((ends_inside : Bool) × AreRequests bytes [] ends_inside) × (came ≡ [])
-Rests (inside head) bytes came = HoldsBody head.framing bytes (readings.cut came)
-Rests (asked head) bytes came = came ≡ []
-Rests (beginning head) bytes came = came ≡ []
-Rests (putting head) bytes came = came ≡ []
-Rests over bytes came = came ≡ []
+abbrev pub HasNoNext : Phase → List ℕ → List ℕ → Type 0
+HasNoNext between bytes came = ((ends_inside : Bool) × AreRequests bytes [] ends_inside) × (came ≡ [])
+HasNoNext (inside head) bytes came = HoldsBody head.framing bytes (readings.cut came)
+HasNoNext (asked head) bytes came = came ≡ []
+HasNoNext (beginning head) bytes came = came ≡ []
+HasNoNext (putting head) bytes came = came ≡ []
+HasNoNext over bytes came = came ≡ []
 
 -- The bytes make these marks, and no more without more bytes or an answer. Of a content that isn't whole so much came.
 pub record IsHistory (bytes : List ℕ) (marks : List Mark) (came : List ℕ) : Type 0 where
@@ -45,11 +45,11 @@ pub record IsHistory (bytes : List ℕ) (marks : List Mark) (came : List ℕ) : 
   pub rest : List ℕ
   pub parts : bytes ≡ text ++ rest
   pub spans : Spans between marks text
-  pub rests : Rests (after_all between marks) rest came
+  pub rests : HasNoNext (after_all between marks) rest came
 
 -- The same bytes and the same answers make the same marks, but for the choice between the two causes of a head that is none, and of
 -- a content that isn't whole the same came.
 abbrev pub OneHistory : Type 0
 OneHistory =
     (bytes : List ℕ) (marks others : List Mark) (came other : List ℕ) → IsHistory bytes marks came → IsHistory bytes others other
-    → answers_in marks ≡ answers_in others → (map merged marks ≡ map merged others) × (came ≡ other)
+    → answers_in marks ≡ answers_in others → (map merged_mark marks ≡ map merged_mark others) × (came ≡ other)

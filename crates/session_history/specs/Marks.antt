@@ -35,11 +35,11 @@ abbrev pub answers_in : List Mark → List Mark
 answers_in marks = filter is_answer marks
 
 -- the mark, with one name for the two causes of a head that is none
-abbrev pub merged : Mark → Mark
-merged (refused why bare) = refused (merged_cause why) bare
-merged (accepted head) = accepted head
-merged (content bytes) = content bytes
-merged (spoiled bytes why) = spoiled bytes why
-merged (replied reply) = replied reply
-merged (failed why) = failed why
-merged (broke why) = broke why
+abbrev pub merged_mark : Mark → Mark
+merged_mark (refused why bare) = refused (merged_cause why) bare
+merged_mark (accepted head) = accepted head
+merged_mark (content bytes) = content bytes
+merged_mark (spoiled bytes why) = spoiled bytes why
+merged_mark (replied reply) = replied reply
+merged_mark (failed why) = failed why
+merged_mark (broke why) = broke why

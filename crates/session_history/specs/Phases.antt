@@ -6,6 +6,7 @@ use Rattle.http_heads.specs.declared.head.Head.{Head}
 use Rattle.http_heads.specs.Head.{is_put}
 use Rattle.http_heads.specs.Response.{why_head, why_body}
 use Rattle.http_front.specs.Asking.{is_head}
+use Rattle.http_front.specs.Entries.{is_begun}
 use Rattle.http_front.specs.Answers.{Answer, last_refusal, reply_to, begin_refused}
 use Rattle.http_front.specs.Responses.{replied_with, continue}
 use Rattle.session_history.specs.Marks.{Mark, refused, accepted, content, spoiled, replied, failed, broke}
@@ -20,16 +21,6 @@ pub data Phase : Type 0 where
   inside : Head → Phase
   putting : Head → Phase
   over : Phase
-
--- whether an upload was begun
-abbrev pub is_begun : Reply → Bool
-is_begun (reply.Begun store) = true
-is_begun (reply.Stored asset) = false
-is_begun (reply.Found asset) = false
-is_begun reply.Gone = false
-is_begun reply.Removed = false
-is_begun (reply.Reconciled kept) = false
-is_begun (reply.Refused why) = false
 
 -- nothing is said, and the session goes on
 abbrev pub quiet : Answer

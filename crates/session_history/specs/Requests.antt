@@ -5,7 +5,8 @@ use Rattle.http_front.specs.Asking.{is_empty}
 use Rattle.http_requests.specs.Requests as requests
 use Rattle.http_requests.specs.Requests.{Item, AreRequests, merged}
 use Rattle.session_history.specs.Marks.{Mark, refused, content, spoiled, replied, failed}
-use Rattle.session_history.specs.Phases.{Phase, between, asked, beginning, inside, putting, is_begun, after, after_all}
+use Rattle.http_front.specs.Entries.{is_begun}
+use Rattle.session_history.specs.Phases.{Phase, between, asked, beginning, inside, putting, after, after_all}
 use Rattle.session_history.specs.Histories.{Spans, IsHistory}
 
 -- the request of a head behind which no content is read, where it has none

@@ -5,7 +5,7 @@ use Rattle.http_heads.specs.declared.head.Head.{Head}
 use Rattle.http_heads.specs.declared.head_err.HeadErr.{HeadErr}
 use Rattle.std.proofs.lemmas.Bool.{false≢true}
 use Rattle.http_heads.specs.Fields.{Pair, Values, values_in}
-use Rattle.http_heads.specs.Kept.{values_kept, Keeps}
+use Rattle.http_heads.specs.Kept.{values_kept, KeepsFields}
 use Rattle.http_heads.specs.Gives.{GivesOr}
 use Rattle.http_heads.specs.Head.{IsTooLong, IsWholeHead, judge, judge_of}
 use Rattle.http_heads.proofs.ReadLemmas.{short_text, all_keepable, values_same, gives_head}
@@ -25,7 +25,7 @@ returns c =
     let values = values_kept c.in_ok-kept.kept in
     let whole : IsWholeHead text head = record { fits = λ long. false≢true (c.if-is_too_long.ensures.1 long); reads = found.3; room = found.4 } in
     let kept : values ≡ values_in (map name_and_value head.fields) =
-    values_same c.in_ok-kept.kept (map name_and_value head.fields) (subst (λ (fs : List Pair). Keeps c.in_ok-kept.kept fs) found.2.fields c.in_ok-kept.ensures) in
+    values_same c.in_ok-kept.kept (map name_and_value head.fields) (subst (λ (fs : List Pair). KeepsFields c.in_ok-kept.kept fs) found.2.fields c.in_ok-kept.ensures) in
     let same : judge c.of.result.now c.of-2.result.now c.in-Whole.spans.version values ≡ judge_of head =
     ap (λ (w : List ℕ). judge w c.of-2.result.now c.in-Whole.spans.version values) (c.of.ensures ∙ found.2.method)
     ∙ ap (λ (t : List ℕ). judge head.method t c.in-Whole.spans.version values) (c.of-2.ensures ∙ found.2.path)

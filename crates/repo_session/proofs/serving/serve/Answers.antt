@@ -1,5 +1,5 @@
 use Rattle.http_front.proofs.EndsMap.{ends_map}
-use Rattle.repo_session.specs.Answering.{SessionView, session_view}
+use Rattle.repo_session.specs.Answering.{AnsweringView, session_view}
 use Rattle.repo_session.specs.declared.answering.Answering.{Answering}
 use Rattle.repo_core.specs.Devices.{Devices, devices}
 use Rattle.repo_session.specs.Serving.{HasTurns, HasTurnsPast}
@@ -11,7 +11,7 @@ use Rattle.repo_session.proofs.serving.serve.Goals as goal
 pub returns-clause-session : goal.returns-clause-session
 returns-clause-session g c = λ moments drawn.
     let on : Devices g.row.D.Denot g.row.T.Denot = devices g.D.Disk g.T.Keeper in
-    let view : Answering g.row.D.Denot g.row.T.Denot g.row.D-Writer.Denot g.row.D-Reader.Denot g.row.D-Sealed.Denot g.row.D-Writer.Denot g.row.D-Reader.Denot g.D.Disk g.D.Writer.Writer g.D.Reader.Reader g.T.Keeper → SessionView g.row.D.Denot g.row.T.Denot g.row.D-Writer.Denot g.row.D-Reader.Denot = λ a. session_view a.core a.draws a.upload a.found in
+    let view : Answering g.row.D.Denot g.row.T.Denot g.row.D-Writer.Denot g.row.D-Reader.Denot g.row.D-Sealed.Denot g.row.D-Writer.Denot g.row.D-Reader.Denot g.D.Disk g.D.Writer.Writer g.D.Reader.Reader g.T.Keeper → AnsweringView g.row.D.Denot g.row.T.Denot g.row.D-Writer.Denot g.row.D-Reader.Denot = λ a. session_view a.core a.draws a.upload a.found in
     let said = c.run_session-end.ensures.said in
     let last = c.run_session-end.new.repository in
     let core = c.let_go.new.core in

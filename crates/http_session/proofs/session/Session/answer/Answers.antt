@@ -1,8 +1,8 @@
+use Rattle.http_front.specs.Entries.{is_begun}
 use Rattle.std.proofs.Common.{◌≡◌, ℕ, List, [], take, refl, sym, ap, subst, ◌∙◌, false}
 use Rattle.repo_model.specs.declared.reply.Reply.{Reply}
 use Rattle.repo_model.specs.declared.reply.Reply.TheVariants as reply
 use Rattle.session_history.specs.Marks.{replied}
-use Rattle.session_history.specs.Phases.{is_begun}
 use Rattle.http_session.specs.declared.place.Place.TheVariants as places
 use Rattle.http_session.specs.Views.{SessionView, awaits_at}
 use Rattle.http_session.specs.Taken.{Took, with_mark}

@@ -2,7 +2,7 @@ use Rattle.std.proofs.Common.{◌≡◌, ℕ, ◌+◌, ◌≤◌, ◌^◌, List,
 use Rattle.std.specs.declared.option.Option.{Option}
 use Rattle.std.specs.Io.KnownBytes.{Consumes, IsAtEnd}
 use Rattle.http_session.specs.Views.{SessionView}
-use Rattle.http_session.specs.Fills.{Ends}
+use Rattle.http_session.specs.Fills.{InputEnds}
 use Rattle.http_session.proofs.Fed.{fed_more, told_ended}
 use Rattle.http_session.proofs.session.Session.feed_from.Goals as goal
 
@@ -12,7 +12,7 @@ none_of (b ∷ bytes) e = absurd (omega (arith, e))
 
 -- where no bytes came the input ended
 no_more : (left left' : Option (List ℕ)) (ended : Bool) (s mid new : SessionView) (bytes : List ℕ) → length bytes ≡ 0 → Consumes left left' bytes → IsAtEnd left' → ended ≡ true
-    → mid ≡ record s { held = s.held ++ bytes; total = s.total + length bytes } → new ≡ record mid { ended = true } → Ends left left' ended s new
+    → mid ≡ record s { held = s.held ++ bytes; total = s.total + length bytes } → new ≡ record mid { ended = true } → InputEnds left left' ended s new
 no_more left left' ended s mid new bytes zero consumed at_end told e f =
     let none = none_of bytes zero in
     let same : mid ≡ s = e ∙ ap (λ (l : List ℕ). record s { held = s.held ++ l; total = s.total + length l }) none ∙ ap (λ (n : ℕ). record s { held = s.held ++ []; total = n }) (add-zero s.total)
