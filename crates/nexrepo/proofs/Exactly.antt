@@ -40,9 +40,9 @@ module _ {D T : Type 0} (devices : Devices D T) (moments : List Moment) (disk : 
   after = record { reads = reads'; writes = writes'; disk = devices.disk_faults ran.disk; keeper = devices.keeper_faults ran.table }
 
   -- what was answered was answered exactly
-  exact : (settings : Settings) (over : Bool) (broken : Option Cause) → IsFresh devices disk table ran.table → NoneRose before after
+  answered_so : (settings : Settings) (over : Bool) (broken : Option Cause) → IsFresh devices disk table ran.table → NoneRose before after
       → (requests : List Item) (written : List ℕ) → HasAnswered devices settings moments over broken disk table ran requests written → IsExact settings moments ran requests written
-  exact settings over broken fresh none requests written answered =
+  answered_so settings over broken fresh none requests written answered =
       let lead = answered.leads fresh in
       let no_disk = none_rose (disk_faults_in (entries_of answered.turns) + all_stop_faults answered.turns) _ _ answered.disk_failed none.disk in
       let no_keeper = none_rose (keeper_faults_in (entries_of answered.turns)) _ _ answered.keeper_failed none.keeper in
@@ -99,7 +99,7 @@ module _ {D T : Type 0} (devices : Devices D T) (moments : List Moment) (disk : 
           over = session.over;
           whole = is;
           ends = ends_map (Made session) (IsExact session.settings moments ran) (λ requests written count. ⊥) (λ requests written count. ⊥) ⊥ ⊥ session.over session.end left left' taken taken' ended
-              (exact session.settings session.over session.broken fresh none) (λ requests written count past. past) (λ fails. fails)
+              (answered_so session.settings session.over session.broken fresh none) (λ requests written count past. past) (λ fails. fails)
               (at_whole session session.end is session.ends);
         }
 

@@ -112,8 +112,10 @@ turns_sound (t ∷ ts) setting n number s new k l (mid, is, end, rest) disk keep
     sum_by-append (λ (e : Entry). cond (refuses_by says_disk e.reply) 1 0) t.entries (entries_of ts) in
     let of_keeper : keeper_faults_in (t.entries ++ entries_of ts) ≡ keeper_faults_in t.entries + keeper_faults_in (entries_of ts) =
     sum_by-append (λ (e : Entry). cond (refuses_by says_keeper e.reply) 1 0) t.entries (entries_of ts) in
+    let at_disk : disk_faults_in (t.entries ++ entries_of ts) + all_stop_faults (t ∷ ts) ≡ 0 = disk in
+    let at_keeper : keeper_faults_in (t.entries ++ entries_of ts) ≡ 0 = keeper in
     let of_stops : all_stop_faults (t ∷ ts) ≡ stop_faults t.stop + all_stop_faults ts = sum_by-cons (λ (t : Turn). stop_faults t.stop) t ts in (
-      no_stop t.stop (omega (arith, of_disk, of_stops, disk)) stop,
-      makes_sound t.entries setting (setting.draws n) t.request t.stop [] number s mid is.makes (omega (arith, of_disk, of_stops, disk)) (omega (arith, of_keeper, keeper)) memory,
-      turns_sound ts setting (n + 1) (number + length t.entries) mid new (contents_after t k) l rest (omega (arith, of_disk, of_stops, disk)) (omega (arith, of_keeper, keeper)) wanted,
+      no_stop t.stop (omega (arith, of_disk, of_stops, at_disk)) stop,
+      makes_sound t.entries setting (setting.draws n) t.request t.stop [] number s mid is.makes (omega (arith, of_disk, of_stops, at_disk)) (omega (arith, of_keeper, at_keeper)) memory,
+      turns_sound ts setting (n + 1) (number + length t.entries) mid new (contents_after t k) l rest (omega (arith, of_disk, of_stops, at_disk)) (omega (arith, of_keeper, at_keeper)) wanted,
     )
