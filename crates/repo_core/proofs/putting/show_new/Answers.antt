@@ -17,3 +17,12 @@ pub returns-in-Err-apply-clause-table : goal.returns-in-Err-apply-clause-table
 returns-in-Err-apply-clause-table g c =
     tells_map (λ s t. LeavesChange s t c.args.new.now.change (Err c.in-Err-apply.refusal)) (λ s t. (t ≡ s) ⊎ (t ≡ changed s c.args.new.now.change)) (g.T.Keeper.table c.args.table.now) (g.T.Keeper.table c.apply.new.self)
     (λ s t leaves. leaves_one c.args.new.now.change s t (Err c.in-Err-apply.refusal) leaves) c.in-Err-apply.ensures.told
+
+pub returns-in-Err-clause-created : goal.returns-in-Err-clause-created
+returns-in-Err-clause-created g c = λ told free. c.create.ensures.created told free
+
+pub returns-in-Ok-clause-created : goal.returns-in-Ok-clause-created
+returns-in-Ok-clause-created g c = λ told free. c.create.ensures.created told free
+
+pub returns-in-Err-apply-clause-created : goal.returns-in-Err-apply-clause-created
+returns-in-Err-apply-clause-created g c = λ told free. c.create.ensures.created told free
