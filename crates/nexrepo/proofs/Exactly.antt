@@ -48,7 +48,7 @@ module _ {D T : Type 0} (devices : Devices D T) (moments : List Moment) (disk : 
       let no_keeper = none_rose (keeper_faults_in (entries_of answered.turns)) _ _ answered.keeper_failed none.keeper in
       let output : NoneWanted answered.turns → IsOutput (output_of (setting_with settings moments) 0 0 empty_state [] requests) [] answered.turns lead.state lead.contents =
       λ wanted. subst (λ (rs : List Item). IsOutput (output_of (setting_with settings moments) 0 0 empty_state [] rs) [] answered.turns lead.state lead.contents) answered.asked
-          (lead.output (turns_sound answered.turns (setting_with settings moments) 0 0 empty_state lead.state [] lead.contents lead.are no_disk no_keeper wanted)) in
+      (lead.output (turns_sound answered.turns (setting_with settings moments) 0 0 empty_state lead.state [] lead.contents lead.are no_disk no_keeper wanted)) in
       record {
         turns = answered.turns;
         asked = answered.asked;
