@@ -1,10 +1,10 @@
 //! The answers that a session is given.
 ghost use Rattle.std.specs.Prelude.{◌≡◌, ◌||◌, not, ◌++◌, ℕ, List, [], true, false, if◌then◌else◌};
 ghost use Rattle.http_heads.specs.Response.{refused_with};
+ghost use Rattle.http_front.specs.Entries.{is_begun};
 ghost use Rattle.http_front.specs.Asking.{is_empty};
 ghost use Rattle.http_front.specs.Responses.{replied_with};
 ghost use Rattle.session_history.specs.Marks.{replied, failed, broke};
-ghost use Rattle.session_history.specs.Phases.{is_begun};
 ghost use Rattle.session_history.specs.Saying.{why_upload};
 ghost use Rattle.http_session.specs.declared.body.Body.{Body};
 ghost use Rattle.http_session.specs.declared.place.Place.TheVariants as places;
