@@ -32,7 +32,7 @@ use Rattle.repo_core.specs.declared.staging.Staged.{Staged}
 use Rattle.repo_core.specs.declared.own.Own.{Own}
 use Rattle.repo_core.specs.Agree.{FilesAgree, Agrees}
 use Rattle.repo_core.specs.Marks.{IsMarkOf}
-use Rattle.repo_core.specs.Puts.{put_of, next_ref, props_of, MayGo, AreBytes, IsPrepared}
+use Rattle.repo_core.specs.Puts.{put_for, next_ref, props_of, MayGo, AreBytes, IsPrepared}
 use Rattle.repo_core.specs.Rows.{contents_in}
 use Rattle.repo_core.specs.Stores.{homes_of}
 use Rattle.repo_core.specs.Standing.{ImageBeforeOrAfter, IsHalfway}
@@ -63,24 +63,24 @@ module _ {S : Type 0} (content : S → List ℕ) (config : Config) (tree : Tree)
   later : s.last < blob.timestamp
   later = later_timestamp s.last moment.now
 
-  put_outcome : outcome config s store (put_of upload moment) ≡ answered after (reply.Stored staged.new.asset)
+  put_outcome : outcome config s store (put_for upload moment) ≡ answered after (reply.Stored staged.new.asset)
   put_outcome = p.step ∙ ap (λ (x : Asset). answered after (reply.Stored x)) (sym p.new.asset_is)
 
   -- while the files are shown
   pub crash_one : {D : Type 0} (clock : D → ℕ) (lists : D → ℕ → Lists) (d0 d1 d2 : D) (before : Tree) → Same tree before → Settled tree (lists d0 (clock d0))
       → During clock lists d0 d1 (Same (lists d0 (clock d0))) → During clock lists d1 d2 (Creates staged.new.files.place bytes staged.new.text.items (lists d1 (clock d1)))
-      → During clock lists d0 d2 (EachImage (ImageBeforeOrAfter config s store (put_of upload moment)))
+      → During clock lists d0 d2 (EachImage (ImageBeforeOrAfter config s store (put_for upload moment)))
   crash_one clock lists d0 d1 d2 before same settled first second =
-      crash_created config tree s a.files upload blob new_one refl later staged.new p.new p.free clock lists d0 d1 d2 store (put_of upload moment) after (reply.Stored staged.new.asset) before bytes
+      crash_created config tree s a.files upload blob new_one refl later staged.new p.new p.free clock lists d0 d1 d2 store (put_for upload moment) after (reply.Stored staged.new.asset) before bytes
       put_outcome refl refl same settled first second
 
   -- stopped while they are shown, the put leaves files and rows as before or after
   pub halfway_one : (before now : Tree) → Same tree before → IsCreatedIn staged.new.files.place bytes staged.new.text.items before now
-      → (rows_now : map.FinMap key_cmp Asset) → (rows_now ≡ s.rows) ⊎ (rows_now ≡ map.insert s.rows key new_one) → IsHalfway config s store (put_of upload moment) now rows_now
+      → (rows_now : map.FinMap key_cmp Asset) → (rows_now ≡ s.rows) ⊎ (rows_now ≡ map.insert s.rows key new_one) → IsHalfway config s store (put_for upload moment) now rows_now
   halfway_one before now same created rows_now rows_are = record {
-    files = one_of config s store (put_of upload moment) (λ (t : State). HasContents (homes_of config) (contents_in t.rows) now) after (reply.Stored staged.new.asset) put_outcome refl
+    files = one_of config s store (put_for upload moment) (λ (t : State). HasContents (homes_of config) (contents_in t.rows) now) after (reply.Stored staged.new.asset) put_outcome refl
         (tree_created config tree s a.files upload blob new_one refl later staged.new p.new p.free before now bytes same created);
-    rows_are = one_of config s store (put_of upload moment) (λ (t : State). rows_now ≡ t.rows) after (reply.Stored staged.new.asset) put_outcome refl rows_are;
+    rows_are = one_of config s store (put_for upload moment) (λ (t : State). rows_now ≡ t.rows) after (reply.Stored staged.new.asset) put_outcome refl rows_are;
   }
 
   module _ (before mid : Tree) (same : Same tree before) (its_bytes : mid (bytes_at staged.new.files.place) ≡ Some bytes) (its_text : mid (props_at staged.new.files.place) ≡ Some staged.new.text.items)
@@ -102,7 +102,7 @@ module _ {S : Type 0} (content : S → List ℕ) (config : Config) (tree : Tree)
 
     -- the first content of its key
     pub put_first : (rows_now : map.FinMap key_cmp Asset) → rows_now ≡ map.insert rows key new_one → staged.mark ≡ None
-        → (new : State) × (outcome config s store (put_of upload moment) ≡ answered new (reply.Stored staged.new.asset)) × Agrees config mid rows_now (record kept { last = staged.new.asset.blob.timestamp }) new
+        → (new : State) × (outcome config s store (put_for upload moment) ≡ answered new (reply.Stored staged.new.asset)) × Agrees config mid rows_now (record kept { last = staged.new.asset.blob.timestamp }) new
     put_first rows_now rows_are none =
         let row : row_of s key ≡ None = no_old content config tree s a.files key p.old at staged.mark p.row p.mark none in
         let trash : after.trash ≡ s.trash = ap (λ (o : Option Asset). given o s.trash (λ old. discarded s.trash key old at)) row in
@@ -128,7 +128,7 @@ module _ {S : Type 0} (content : S → List ℕ) (config : Config) (tree : Tree)
 
       -- a content in place of another
       pub put_again : (now : Tree) (rows_now : map.FinMap key_cmp Asset) → rows_now ≡ map.insert rows key new_one → now (props_at mark.files.place) ≡ Some (content mark.file) → Rest (props_at mark.files.place) mid now
-          → (new : State) × (outcome config s store (put_of upload moment) ≡ answered new (reply.Stored staged.new.asset)) × Agrees config now rows_now (record kept { last = staged.new.asset.blob.timestamp }) new
+          → (new : State) × (outcome config s store (put_for upload moment) ≡ answered new (reply.Stored staged.new.asset)) × Agrees config now rows_now (record kept { last = staged.new.asset.blob.timestamp }) new
       put_again now rows_now rows_are named others =
           let trash : after.trash ≡ discarded s.trash key old.0 at = ap (λ (o : Option Asset). given o s.trash (λ x. discarded s.trash key x at)) old.1 in
           let marked : Reads now old.0.blob (with_mark old.2.props (codes "Replaced") at) = record {
@@ -148,12 +148,12 @@ module _ {S : Type 0} (content : S → List ℕ) (config : Config) (tree : Tree)
 
       -- while the old blob is marked
       pub crash_two : {D : Type 0} (clock : D → ℕ) (lists : D → ℕ → Lists) (d0 d2 d3 : D) → Settled mid (lists d2 (clock d2))
-          → During clock lists d0 d2 (EachImage (ImageBeforeOrAfter config s store (put_of upload moment)))
+          → During clock lists d0 d2 (EachImage (ImageBeforeOrAfter config s store (put_for upload moment)))
           → During clock lists d2 d3 (MayPut (props_at mark.files.place) (Some (content mark.file)) (lists d2 (clock d2)))
-          → During clock lists d0 d3 (EachImage (ImageBeforeOrAfter config s store (put_of upload moment)))
+          → During clock lists d0 d3 (EachImage (ImageBeforeOrAfter config s store (put_for upload moment)))
       crash_two clock lists d0 d2 d3 settled first second =
           let start = lists d2 (clock d2) in
-          let P : Lists → Type 0 = EachImage (ImageBeforeOrAfter config s store (put_of upload moment)) in
+          let P : Lists → Type 0 = EachImage (ImageBeforeOrAfter config s store (put_for upload moment)) in
           and_then clock lists P d0 d2 d3 first
           (weaker clock lists (MayPut (props_at mark.files.place) (Some (content mark.file)) start) P d2 d3
           (λ l put image here.
@@ -170,7 +170,7 @@ module _ {S : Type 0} (content : S → List ℕ) (config : Config) (tree : Tree)
 
       -- stopped while it is marked, the put leaves the files as after
       pub halfway_two : (now : Tree) → (now (props_at mark.files.place) ≡ mid (props_at mark.files.place)) ⊎ (now (props_at mark.files.place) ≡ Some (content mark.file)) → Rest (props_at mark.files.place) mid now
-          → (rows_now : map.FinMap key_cmp Asset) → (rows_now ≡ s.rows) ⊎ (rows_now ≡ map.insert s.rows key new_one) → IsHalfway config s store (put_of upload moment) now rows_now
+          → (rows_now : map.FinMap key_cmp Asset) → (rows_now ≡ s.rows) ⊎ (rows_now ≡ map.insert s.rows key new_one) → IsHalfway config s store (put_for upload moment) now rows_now
       halfway_two now either others rows_now rows_are =
           let put : MayPut (props_name old.0.blob) (Some text) (alone mid) (alone now) = alone_put (props_name old.0.blob) (Some text) mid now
           (⊎_elim (λ stays. inl (ap now (sym name_is) ∙ stays ∙ ap mid name_is)) (λ is_new. inr (ap now (sym name_is) ∙ is_new ∙ ap (λ (t : List ℕ). Some t) old.2.content_is)) either)
@@ -184,5 +184,5 @@ module _ {S : Type 0} (content : S → List ℕ) (config : Config) (tree : Tree)
               image_replaced config tree s a.files upload blob new_one refl later staged.new p.new p.free mid made old.0 old.1 old.2.props was text (alone mid) (alone now) (alone_settled mid)
                   (with_mark old.2.props (codes "Replaced") at, old.2.says, refl) put now (alone_image now),
             );
-            rows_are = one_of config s store (put_of upload moment) (λ (t : State). rows_now ≡ t.rows) after (reply.Stored staged.new.asset) put_outcome refl rows_are;
+            rows_are = one_of config s store (put_for upload moment) (λ (t : State). rows_now ≡ t.rows) after (reply.Stored staged.new.asset) put_outcome refl rows_are;
           }

@@ -25,7 +25,7 @@ use Rattle.repo_core.specs.declared.staging.Staged.{Staged}
 use Rattle.repo_core.specs.Agree.{FilesAgree}
 use Rattle.repo_core.specs.Faults.{of_disk, of_keeper}
 use Rattle.repo_core.specs.Ends.{DeniesAt}
-use Rattle.repo_core.specs.Puts.{put_of, next_ref, MayGo, MayReplace, IsNext, NotPut, IsNewBlob, StagesOld, with_old, Prepares}
+use Rattle.repo_core.specs.Puts.{put_for, next_ref, MayGo, MayReplace, IsNext, NotPut, IsNewBlob, StagesOld, with_old, Prepares}
 use Rattle.repo_core.proofs.Maps.{two}
 use Rattle.repo_core.proofs.Steps.{sound_is, denies_at, fault_denies_at}
 
@@ -42,21 +42,21 @@ module _ (config : Config) (s : State) (store : List ℕ) (upload : Upload) (mom
   abbrev blob : BlobRef
   blob = next_ref store s.last moment
 
-  asked : outcome config s store (put_of upload moment) ≡ on_put config s store upload moment
-  asked = sound_is config s store (put_of upload moment) sound
+  asked : outcome config s store (put_for upload moment) ≡ on_put config s store upload moment
+  asked = sound_is config s store (put_for upload moment) sound
 
   declared : on_put config s store upload moment
       ≡ (if keeps_row may.repo s upload.key then refused s (refusal.WriteDenied NoRedeploy) else put_reply s (stored s store upload moment false))
   declared = rw (may.declared, may.takes_it) refl
 
-  pub kept : keeps_row may.repo s upload.key ≡ true → DeniesAt config s store (put_of upload moment) (denial.WriteDenied NoRedeploy)
-  kept is = denies_at config s store (put_of upload moment) (denial.WriteDenied NoRedeploy) (asked ∙ declared ∙ rw is refl)
+  pub kept : keeps_row may.repo s upload.key ≡ true → DeniesAt config s store (put_for upload moment) (denial.WriteDenied NoRedeploy)
+  kept is = denies_at config s store (put_for upload moment) (denial.WriteDenied NoRedeploy) (asked ∙ declared ∙ rw is refl)
 
-  open_to : keeps_row may.repo s upload.key ≡ false → outcome config s store (put_of upload moment) ≡ put_reply s (stored s store upload moment false)
+  open_to : keeps_row may.repo s upload.key ≡ false → outcome config s store (put_for upload moment) ≡ put_reply s (stored s store upload moment false)
   open_to is = asked ∙ declared ∙ rw is refl
 
-  pub used_up : keeps_row may.repo s upload.key ≡ false → greatest_time ≤ s.last → DeniesAt config s store (put_of upload moment) denial.StampsUsed
-  used_up is full = denies_at config s store (put_of upload moment) denial.StampsUsed
+  pub used_up : keeps_row may.repo s upload.key ≡ false → greatest_time ≤ s.last → DeniesAt config s store (put_for upload moment) denial.StampsUsed
+  used_up is full = denies_at config s store (put_for upload moment) denial.StampsUsed
       (open_to is ∙ ap (put_reply s) (ap (λ (b : Bool). if b then Err refusal.StampsUsed else stored_as s upload moment.now blob (next_timestamp s.last moment.now)) (at_least greatest_time s.last full)))
 
   stored_is : s.last < greatest_time → stored s store upload moment false ≡ stored_as s upload moment.now blob (next_timestamp s.last moment.now)
@@ -71,27 +71,27 @@ module _ (config : Config) (s : State) (store : List ℕ) (upload : Upload) (mom
   as_free : is_taken s blob ≡ false → stored_as s upload moment.now blob (next_timestamp s.last moment.now) ≡ Ok (record { asset = asset; new = with_asset s upload.key asset (time_of moment.now) })
   as_free free = ap (λ (b : Bool). if b then Err (refusal.IdTaken blob.id) else Ok (record { asset = asset; new = with_asset s upload.key asset (time_of moment.now) })) free
 
-  pub id_taken : keeps_row may.repo s upload.key ≡ false → s.last < greatest_time → is_taken s blob ≡ true → DeniesAt config s store (put_of upload moment) (denial.IdTaken blob.id)
-  id_taken is room taken = denies_at config s store (put_of upload moment) (denial.IdTaken blob.id)
+  pub id_taken : keeps_row may.repo s upload.key ≡ false → s.last < greatest_time → is_taken s blob ≡ true → DeniesAt config s store (put_for upload moment) (denial.IdTaken blob.id)
+  id_taken is room taken = denies_at config s store (put_for upload moment) (denial.IdTaken blob.id)
       (open_to is ∙ ap (put_reply s) (stored_is room ∙ as_taken taken))
 
   pub done : keeps_row may.repo s upload.key ≡ false → s.last < greatest_time → is_taken s blob ≡ false
-      → outcome config s store (put_of upload moment) ≡ answered (with_asset s upload.key asset (time_of moment.now)) (reply.Stored asset)
+      → outcome config s store (put_for upload moment) ≡ answered (with_asset s upload.key asset (time_of moment.now)) (reply.Stored asset)
   done is room free = open_to is ∙ ap (put_reply s) (stored_is room ∙ as_free free)
 
-  pub may_not_replace : (why : Denial) → MayReplace may.repo s upload.key (Err why) → DeniesAt config s store (put_of upload moment) why
-  may_not_replace why (inl bad) = subst (λ (w : Denial). DeniesAt config s store (put_of upload moment) w) (sym bad.0) (kept bad.1)
-  may_not_replace why (inr failed) = subst (λ (w : Denial). DeniesAt config s store (put_of upload moment) w) (sym failed.1) (fault_denies_at config s store (put_of upload moment) (of_keeper failed.0) sound)
+  pub may_not_replace : (why : Denial) → MayReplace may.repo s upload.key (Err why) → DeniesAt config s store (put_for upload moment) why
+  may_not_replace why (inl bad) = subst (λ (w : Denial). DeniesAt config s store (put_for upload moment) w) (sym bad.0) (kept bad.1)
+  may_not_replace why (inr failed) = subst (λ (w : Denial). DeniesAt config s store (put_for upload moment) w) (sym failed.1) (fault_denies_at config s store (put_for upload moment) (of_keeper failed.0) sound)
 
-  pub no_next : (why : Denial) → keeps_row may.repo s upload.key ≡ false → IsNext store s.last moment (Err why) → DeniesAt config s store (put_of upload moment) why
-  no_next why is (inl full) = subst (λ (w : Denial). DeniesAt config s store (put_of upload moment) w) (sym full.0) (used_up is full.1)
-  no_next why is (inr failed) = subst (λ (w : Denial). DeniesAt config s store (put_of upload moment) w) (sym failed) (fault_denies_at config s store (put_of upload moment) fault.Memory sound)
+  pub no_next : (why : Denial) → keeps_row may.repo s upload.key ≡ false → IsNext store s.last moment (Err why) → DeniesAt config s store (put_for upload moment) why
+  no_next why is (inl full) = subst (λ (w : Denial). DeniesAt config s store (put_for upload moment) w) (sym full.0) (used_up is full.1)
+  no_next why is (inr failed) = subst (λ (w : Denial). DeniesAt config s store (put_for upload moment) w) (sym failed) (fault_denies_at config s store (put_for upload moment) fault.Memory sound)
 
   module _ (tree : Tree) (a : FilesAgree config tree s) (ref : IsRef blob) where
     pub not_put : (why : Denial) → keeps_row may.repo s upload.key ≡ false → s.last < greatest_time
-        → ((why ≡ denial.IdTaken blob.id) × IsSome (tree (props_name blob))) ⊎ ((refused : DiskErr) × (why ≡ denial.Failed (of_disk refused))) → DeniesAt config s store (put_of upload moment) why
-    not_put why is room (inl taken) = subst (λ (w : Denial). DeniesAt config s store (put_of upload moment) w) (sym taken.0) (id_taken is room ((a.taken_is blob ref).1 taken.1))
-    not_put why is room (inr failed) = subst (λ (w : Denial). DeniesAt config s store (put_of upload moment) w) (sym failed.1) (fault_denies_at config s store (put_of upload moment) (of_disk failed.0) sound)
+        → ((why ≡ denial.IdTaken blob.id) × IsSome (tree (props_name blob))) ⊎ ((refused : DiskErr) × (why ≡ denial.Failed (of_disk refused))) → DeniesAt config s store (put_for upload moment) why
+    not_put why is room (inl taken) = subst (λ (w : Denial). DeniesAt config s store (put_for upload moment) w) (sym taken.0) (id_taken is room ((a.taken_is blob ref).1 taken.1))
+    not_put why is room (inr failed) = subst (λ (w : Denial). DeniesAt config s store (put_for upload moment) w) (sym failed.1) (fault_denies_at config s store (put_for upload moment) (of_disk failed.0) sound)
 
     pub is_free : tree (props_name blob) ≡ None → is_taken s blob ≡ false
     is_free free = elim (two (is_taken s blob)) [

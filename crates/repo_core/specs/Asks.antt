@@ -32,7 +32,7 @@ use Rattle.repo_core.specs.Begun.{begun_in}
 use Rattle.repo_core.specs.Devices.{Devices}
 use Rattle.repo_core.specs.Looking.{found_in}
 use Rattle.repo_core.specs.Parts.{IsQuiet}
-use Rattle.repo_core.specs.Puts.{put_of, upload_of, next_ref, MayGo, AreBytes}
+use Rattle.repo_core.specs.Puts.{put_for, upload_of, next_ref, MayGo, AreBytes}
 use Rattle.repo_core.specs.Standing.{ImageBeforeOrAfter, IsHalfway}
 
 pub record Ask (D A : Type 0) : Type 1 where
@@ -153,5 +153,5 @@ looks_at caller key look moment = asks caller (call.Get key look moment remote.N
 -- of the file.
 abbrev pub puts : {D T S : Type 0} → Devices D T → (S → List ℕ) → Config → ℕ → Ready S → Moment → Ask D Asset
 puts on content config caller ready moment =
-    asks_to_store on caller (put_of (upload_of ready) moment) (λ asset. reply.Stored asset) (TouchesNew ready.store ready.begin.key moment) (SetsRow ready.begin.key) (Timestamps ready.begin.key moment) ready.store
+    asks_to_store on caller (put_for (upload_of ready) moment) (λ asset. reply.Stored asset) (TouchesNew ready.store ready.begin.key moment) (SetsRow ready.begin.key) (Timestamps ready.begin.key moment) ready.store
     (MayGo config ready.begin.key ready.store × AreBytes (upload_of ready) (content ready.file))

@@ -93,8 +93,8 @@ NotPut told tree blob why =
     ((why ≡ denial.IdTaken blob.id) × (told → IsSome (tree (props_name blob)))) ⊎ ((refusal : DiskErr) × (why ≡ denial.Failed (of_disk refusal)))
 
 -- the call that puts an upload
-abbrev pub put_of : Upload → Moment → Call
-put_of upload moment = call.Put upload.key upload.content_type upload.size upload.sha1 moment
+abbrev pub put_for : Upload → Moment → Call
+put_for upload moment = call.Put upload.key upload.content_type upload.size upload.sha1 moment
 
 -- the size and the digest of these bytes are those of the upload
 pub record AreBytes (upload : Upload) (bytes : List ℕ) : Type 0 where
@@ -112,7 +112,7 @@ pub record IsPrepared {S : Type 0} (content : S → List ℕ) (config : Config) 
   pub old : Option Asset
   pub row : row_of s upload.key ≡ old
   pub new : IsNewBlob upload (next_ref store s.last moment) staged.new
-  pub step : outcome config s store (put_of upload moment)
+  pub step : outcome config s store (put_for upload moment)
       ≡ answered (with_asset s upload.key (new_asset upload (next_ref store s.last moment) (next_timestamp s.last moment.now)) (time_of moment.now))
       (reply.Stored (new_asset upload (next_ref store s.last moment) (next_timestamp s.last moment.now)))
   pub free : tree (props_name (next_ref store s.last moment)) ≡ None
@@ -122,7 +122,7 @@ pub record IsPrepared {S : Type 0} (content : S → List ℕ) (config : Config) 
 -- ready so, or why not
 abbrev pub Prepares : {S : Type 0} → (S → List ℕ) → Config → Tree → State → List ℕ → Upload → Moment → Own → Own → Result (Staged S) Denial → Type 0
 Prepares content config tree s store upload moment own kept (Ok staged) = IsPrepared content config tree s store upload moment own kept staged
-Prepares content config tree s store upload moment own kept (Err why) = DeniesAt config s store (put_of upload moment) why
+Prepares content config tree s store upload moment own kept (Err why) = DeniesAt config s store (put_for upload moment) why
 
 -- the asset that a put answers
 abbrev pub asset_of : Result Kept Refusal → Result Asset Refusal

@@ -8,7 +8,7 @@ ghost use Rattle.disk_model.specs.Disk.{Same};
 ghost use Rattle.disk_model.specs.Moments.{During, EachImage};
 ghost use Rattle.repo_core.specs.Rows.{rows_in};
 ghost use Rattle.repo_core.specs.Agree.{Agrees};
-ghost use Rattle.repo_core.specs.Puts.{MayGo, AreBytes, IsPlaced, Prepares, put_of, props_of};
+ghost use Rattle.repo_core.specs.Puts.{MayGo, AreBytes, IsPlaced, Prepares, put_for, props_of};
 ghost use Rattle.repo_core.specs.Stays.{BytesStay};
 ghost use Rattle.repo_core.specs.Asks.{Discards, Timestamps, TouchesNew, Sets, SetsRow};
 ghost use Rattle.repo_core.specs.Devices.{devices};
@@ -164,15 +164,15 @@ pub(crate) fn put_content<D: Disk, T: Keeper>(
     // What it comes to is what the step says.
     ensures ends { D.told → IsSome (T.table table.new) → MayGo (config_of config.now) upload.now.key store.now → AreBytes upload.now (D.Writer.content file)
         → (s : State) → Agrees (config_of config.now) (D.tree disk.old) (rows_in (T.table table.old)) own.old s
-        → EndsAt (config_of config.now) s store.now (put_of upload.now moment.entry.now) (λ kept. reply.Stored kept.asset) (Agrees (config_of config.now) (D.tree disk.new) (rows_in (T.table table.new)) own.new) result }
+        → EndsAt (config_of config.now) s store.now (put_for upload.now moment.entry.now) (λ kept. reply.Stored kept.asset) (Agrees (config_of config.now) (D.tree disk.new) (rows_in (T.table table.new)) own.new) result }
     // At every moment each image has the contents before or after.
     ensures crash { D.told → IsSome (T.table table.new) → MayGo (config_of config.now) upload.now.key store.now → AreBytes upload.now (D.Writer.content file)
         → (s : State) → Agrees (config_of config.now) (D.tree disk.old) (rows_in (T.table table.old)) own.old s → IsDurable D.tree D.clock D.lists disk.old
-        → During D.clock D.lists disk.old disk.new (EachImage (ImageBeforeOrAfter (config_of config.now) s store.now (put_of upload.now moment.entry.now))) }
+        → During D.clock D.lists disk.old disk.new (EachImage (ImageBeforeOrAfter (config_of config.now) s store.now (put_for upload.now moment.entry.now))) }
     // Stopped halfway, it leaves the tree and the rows as before or after.
     ensures halfway { D.told → IsSome (T.table table.new) → MayGo (config_of config.now) upload.now.key store.now → AreBytes upload.now (D.Writer.content file)
         → (s : State) → Agrees (config_of config.now) (D.tree disk.old) (rows_in (T.table table.old)) own.old s
-        → is_broke result ≡ true → IsHalfway (config_of config.now) s store.now (put_of upload.now moment.entry.now) (D.tree disk.new) (rows_in (T.table table.new)) }
+        → is_broke result ≡ true → IsHalfway (config_of config.now) s store.now (put_for upload.now moment.entry.now) (D.tree disk.new) (rows_in (T.table table.new)) }
     ensures durable { D.told → is_broke result ≡ false → IsDurable D.tree D.clock D.lists disk.old → IsDurable D.tree D.clock D.lists disk.new }
     // The new blob's properties say what was put, and those of the blob that the key had, when and why it was replaced.
     ensures says { D.told → IfOk result (λ kept. HasProps (D.tree disk.new) kept.asset.blob (props_of upload.now kept.asset.blob.timestamp)) }

@@ -31,7 +31,7 @@ use Rattle.repo_core.specs.Asks.{Ask, EntersOne, asks, asks_to_store, puts, Sets
 use Rattle.repo_core.specs.Called as core
 use Rattle.repo_core.specs.Devices.{Devices}
 use Rattle.repo_core.specs.Faults.{IsDisk, IsKeeper, RefusedBy}
-use Rattle.repo_core.specs.Puts.{MayGo, AreBytes, next_ref, put_of, upload_of}
+use Rattle.repo_core.specs.Puts.{MayGo, AreBytes, next_ref, put_for, upload_of}
 use Rattle.repo_core.specs.Returned.{GaveBack}
 use Rattle.repo_core.specs.Standing.{Tracks, Moves}
 use Rattle.repo_core.specs.Survives.{Survives}
@@ -216,9 +216,9 @@ pub asked_put : {D T S : Type 0} (on : Devices D T) (content_of : S → List ℕ
     → core.Called on (puts on content_of (config_of old.config) 0 ready moment) old new result → Survives on (puts on content_of (config_of old.config) 0 ready moment) old new result
     → (on.told → IfOk result (λ (asset : Asset). on.tree new.disk (bytes_name asset.blob) ≡ Some (content_of ready.file)))
     → MayGo (config_of old.config) ready.begin.key ready.store → (content : List ℕ) → (on.told → AreBytes (upload_of ready) content × (content_of ready.file ≡ content))
-    → Called on old new (put_of (upload_of ready) moment) ready.store (reply_of (λ (asset : Asset). reply.Stored asset) result) (λ contents. with_content (reply_of (λ (asset : Asset). reply.Stored asset) result) content contents)
+    → Called on old new (put_for (upload_of ready) moment) ready.store (reply_of (λ (asset : Asset). reply.Stored asset) result) (λ contents. with_content (reply_of (λ (asset : Asset). reply.Stored asset) result) content contents)
 asked_put on content_of old new ready moment result done survives made may content are =
-    asked_to_store on old new (put_of (upload_of ready) moment) (TouchesNew ready.store ready.begin.key moment) (SetsRow ready.begin.key) (Timestamps ready.begin.key moment) result tt refl (new_named ready.store ready.begin.key moment) ready.store content
+    asked_to_store on old new (put_for (upload_of ready) moment) (TouchesNew ready.store ready.begin.key moment) (SetsRow ready.begin.key) (Timestamps ready.begin.key moment) result tt refl (new_named ready.store ready.begin.key moment) ready.store content
     (MayGo (config_of old.config) ready.begin.key ready.store × AreBytes (upload_of ready) (content_of ready.file))
     (λ told. (may, subst (λ (l : List ℕ). AreBytes (upload_of ready) l) (sym (are told).1) (are told).0))
     (λ told. subst (λ (l : List ℕ). IfOk result (λ (asset : Asset). on.tree new.disk (bytes_name asset.blob) ≡ Some l)) (are told).1 (made told))

@@ -31,7 +31,7 @@ use Rattle.http_front.specs.Contents.{Contents, with_content}
 use Rattle.http_front.specs.Served.{Serves}
 use Rattle.session_history.specs.Asking.{begin_of}
 use Rattle.repo_core.specs.Puts.{MayGo, AreBytes, upload_of}
-use Rattle.repo_core.specs.Puts.{put_of as core_put}
+use Rattle.repo_core.specs.Puts.{put_for as core_put}
 use Rattle.repo_core.specs.View.{CoreView}
 use Rattle.repo_core.specs.Devices.{Devices}
 use Rattle.repo_session.specs.Standing.{Stands}

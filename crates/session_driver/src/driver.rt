@@ -4,7 +4,7 @@ ghost use Rattle.std.specs.declared.option.Option.{Option};
 ghost use Rattle.http_front.specs.Sessions.{HasEndCause};
 ghost use Rattle.http_session.specs.Views.{awaits_at};
 ghost use Rattle.session_driver.specs.Standing.{HasFed, HasPast, Asked, Leads, IsUnderWay};
-ghost use Rattle.session_driver.specs.Going.{Goes, EndsSo, HasStepCause, HasWriteCause, KeepsInput, distance};
+ghost use Rattle.session_driver.specs.Going.{Goes, EndsSo, HasStepCause, HasWriteCause, KeepsTotals, distance};
 
 use crate::ends::{cut_short, refuse_head};
 use crate::looks::{answer_delete, answer_look};
@@ -28,7 +28,7 @@ fn make_call<R: Repository, K: Sink>(
         → Asked R.Answers R.Uploads x repository.old session.old fed taken (K.taken output.old) ask → HasFed session.old left left' ended fed
         → Goes (Leads R.Answers R.Uploads x repository.new session.new taken (K.taken output.new) ask) (EndsSo R.Answers R.Fails x repository.new left left' ended taken (K.taken output.new)) session.new left left' ended result }
     ensures cause { HasWriteCause (K.faults output.old) (K.faults output.new) result }
-    ensures keeps { result ≡ None → KeepsInput session.old session.new }
+    ensures keeps { result ≡ None → KeepsTotals session.old session.new }
 {
     match ask {
         Ask::Begin(begin) => begin_upload(session, repository, begin, output),

@@ -5,7 +5,7 @@ ghost use Rattle.http_heads.specs.declared.head.Head.{Head};
 ghost use Rattle.session_history.specs.declared.ask.Ask.TheVariants as asks;
 ghost use Rattle.session_history.specs.Asking.{ask_of};
 ghost use Rattle.session_driver.specs.Standing.{HasFed, IsAtHead, StandsBetween};
-ghost use Rattle.session_driver.specs.Going.{Goes, EndsSo, HasWriteCause, KeepsInput};
+ghost use Rattle.session_driver.specs.Going.{Goes, EndsSo, HasWriteCause, KeepsTotals};
 
 use crate::ends::{end_if_over, end_of};
 use crate::repository::Repository;
@@ -28,7 +28,7 @@ pub(crate) fn answer_look<R: Repository, K: Sink>(
         → IsAtHead R.Answers x repository.old session.old fed head taken (K.taken output.old) → HasFed session.old left left' ended fed → ask_of head head.method ≡ asks.Look key look
         → Goes (StandsBetween R.Answers x repository.new session.new taken (K.taken output.new)) (EndsSo R.Answers R.Fails x repository.new left left' ended taken (K.taken output.new)) session.new left left' ended result }
     ensures cause { HasWriteCause (K.faults output.old) (K.faults output.new) result }
-    ensures keeps { KeepsInput session.old session.new }
+    ensures keeps { KeepsTotals session.old session.new }
 {
     let reply = repository.look(key, look);
     session.answer(&reply);
@@ -52,7 +52,7 @@ pub(crate) fn answer_delete<R: Repository, K: Sink>(
         → IsAtHead R.Answers x repository.old session.old fed head taken (K.taken output.old) → HasFed session.old left left' ended fed → ask_of head head.method ≡ asks.Delete key
         → Goes (StandsBetween R.Answers x repository.new session.new taken (K.taken output.new)) (EndsSo R.Answers R.Fails x repository.new left left' ended taken (K.taken output.new)) session.new left left' ended result }
     ensures cause { HasWriteCause (K.faults output.old) (K.faults output.new) result }
-    ensures keeps { KeepsInput session.old session.new }
+    ensures keeps { KeepsTotals session.old session.new }
 {
     let reply = repository.delete(key);
     session.answer(&reply);

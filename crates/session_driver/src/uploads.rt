@@ -5,7 +5,7 @@ ghost use Rattle.http_heads.specs.declared.head.Head.{Head};
 ghost use Rattle.session_history.specs.declared.ask.Ask.TheVariants as asks;
 ghost use Rattle.session_history.specs.Asking.{ask_of};
 ghost use Rattle.session_driver.specs.Standing.{HasFed, IsAtHead, IsReplied, IsContentWhole, IsSpoiled, IsUnderWay, StandsBetween, StandsInside};
-ghost use Rattle.session_driver.specs.Going.{Goes, EndsSo, HasWriteCause, HasLastCause, KeepsInput};
+ghost use Rattle.session_driver.specs.Going.{Goes, EndsSo, HasWriteCause, HasLastCause, KeepsTotals};
 
 use crate::ends::give_up;
 use crate::repository::Repository;
@@ -25,7 +25,7 @@ fn answer_begun<R: Repository, K: Sink>(
         → IsReplied R.Answers R.Uploads x repository.old session.old fed taken (K.taken output.old) → HasFed session.old left left' ended fed
         → Goes (IsUnderWay R.Answers R.Uploads x repository.new session.new taken (K.taken output.new)) (EndsSo R.Answers R.Fails x repository.new left left' ended taken (K.taken output.new)) session.new left left' ended result }
     ensures cause { HasWriteCause (K.faults output.old) (K.faults output.new) result }
-    ensures keeps { KeepsInput session.old session.new }
+    ensures keeps { KeepsTotals session.old session.new }
 {
     match say_and_go_on(session, output) {
         None => None,
@@ -47,7 +47,7 @@ pub(crate) fn begin_upload<R: Repository, K: Sink>(
         → IsAtHead R.Answers x repository.old session.old fed head taken (K.taken output.old) → HasFed session.old left left' ended fed → ask_of head head.method ≡ asks.Begin begin
         → Goes (IsUnderWay R.Answers R.Uploads x repository.new session.new taken (K.taken output.new)) (EndsSo R.Answers R.Fails x repository.new left left' ended taken (K.taken output.new)) session.new left left' ended result }
     ensures cause { HasWriteCause (K.faults output.old) (K.faults output.new) result }
-    ensures keeps { KeepsInput session.old session.new }
+    ensures keeps { KeepsTotals session.old session.new }
 {
     match repository.begin(begin) {
         Ok(reply) => {
@@ -95,7 +95,7 @@ pub(crate) fn commit<R: Repository, K: Sink>(
         → IsContentWhole R.Answers R.Uploads x repository.old session.old fed taken (K.taken output.old) → HasFed session.old left left' ended fed
         → Goes (StandsBetween R.Answers x repository.new session.new taken (K.taken output.new)) (EndsSo R.Answers R.Fails x repository.new left left' ended taken (K.taken output.new)) session.new left left' ended result }
     ensures cause { HasWriteCause (K.faults output.old) (K.faults output.new) result }
-    ensures keeps { KeepsInput session.old session.new }
+    ensures keeps { KeepsTotals session.old session.new }
 {
     match repository.commit() {
         Ok(reply) => {

@@ -22,7 +22,7 @@ use Rattle.repo_core.specs.declared.marking.Mark.{Mark}
 use Rattle.repo_core.specs.Asks.{TouchesNew, SetsRow}
 use Rattle.repo_core.specs.Devices.{devices}
 use Rattle.repo_core.specs.Marks.{HasOld}
-use Rattle.repo_core.specs.Puts.{put_of, props_of, IsPrepared}
+use Rattle.repo_core.specs.Puts.{put_for, props_of, IsPrepared}
 use Rattle.repo_core.proofs.Tables.{rows_same, rows_changed, rows_either, still_told, tells_then}
 use Rattle.repo_core.proofs.Runs.{at_end, still_same}
 use Rattle.repo_core.proofs.Rises.{stopped_by_disk, not_by_keeper}
@@ -53,7 +53,7 @@ pub returns-in-Err-clause-crash : goal.returns-in-Err-clause-crash
 returns-in-Err-clause-crash g c = λ told some may are s a settled.
     let clock = g.D.Disk.clock in
     let lists = g.D.Disk.lists in
-    crash_same (config_of c.args.config.now) (g.D.Disk.tree c.args.disk.now) s a.files clock lists c.args.disk.now c.discard.new.self c.args.store.now (put_of c.args.upload.now c.args.moment.now) settled
+    crash_same (config_of c.args.config.now) (g.D.Disk.tree c.args.disk.now) s a.files clock lists c.args.disk.now c.discard.new.self c.args.store.now (put_for c.args.upload.now c.args.moment.now) settled
     (still_same clock lists c.args.disk.now c.prepare.new.disk c.discard.new.self (c.prepare.ensures.any_moment told) (c.discard.ensures.time told) (c.discard.ensures.crash told))
 
 pub returns-in-Err-clause-durable : goal.returns-in-Err-clause-durable
