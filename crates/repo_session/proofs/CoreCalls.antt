@@ -62,6 +62,10 @@ pub undamaged : {A : Type 0} (says : A → Reply) (result : Result A Refusal) �
 undamaged says (Ok value) never whole = never value
 undamaged says (Err why) never whole = λ size found is. whole size found (ap (λ (r : Refusal). Err r) (refusal_is why (refusal.Damaged size found) is))
 
+-- the answer of a deletion that was done tells of none
+pub gone_undamaged : IsUndamaged reply.Gone
+gone_undamaged size found e = cc
+
 -- the names that a call may touch are those of blobs
 
 pub none_named : (s : State) (n : List ℕ) → TouchesNone s n → IsBlobName n
