@@ -14,7 +14,7 @@ returns-clause-history g c = elim c.match-read_words.branch [
 pub returns-clause-exact : goal.returns-clause-exact
 returns-clause-exact g c = elim c.match-read_words.branch [
   | in-Ok-Stdio w ↦
-      rw w.result-is (λ none held fresh.
+      rw (w.input-is, w.output-is, w.result-is) (λ none held fresh.
       run_exactly _ c.args.moments.now c.args.disk c.args.table _ _ _ _ _ w.stdio.result _ _ _ _ w.stdio.ensures.cause none held fresh _ _ _ _ w.stdio.ensures.session)
   | in-Err-Words w ↦ rw (w.result-is, w.unopened.ensures) (λ none held fresh. absurd (held.command refl))
   | in-Err-NoMemory w ↦ rw (w.result-is, w.unopened-in-Err-NoMemory.ensures) (λ none held fresh. absurd (held.memory refl))
